@@ -36,10 +36,10 @@ module _ {O : Type 0} (address : O → List ℕ) (k : ℕ) (es : List (ℕ × Fi
     pushed : fs ≡ es ++ (k, f) ∷ []
     pushed = entries ∙ inserted_last k f es (entries_below address k es ps p are)
 
-    pub shown_more : with_addresses address qs fs ≡ all ++ (k, (address f.content, record { content = f.content; holders = t ∷ [] })) ∷ []
+    pub shown_more : with_addresses address qs fs ≡ all ++ (k, (address f.content, record { content = f.content; holders = t ∷ []; number = k })) ∷ []
     shown_more =
         ap (with_addresses address qs) pushed ∙ pushed_with address ps qs k (holders_elsewhere t k true ps qs changes paired.ordered ordered) f es (entries_below address k es ps p are)
-        ∙ ap (λ (hs : List ℕ). all ++ (k, (address f.content, record { content = f.content; holders = hs })) ∷ []) only_holder
+        ∙ ap (λ (hs : List ℕ). all ++ (k, (address f.content, record { content = f.content; holders = hs; number = k })) ∷ []) only_holder
 
     pub paired_more : f.holders ≡ 1 → ArePaired fs qs
     paired_more one = paired_after ps qs es fs t k true (Some f) changes (λ q. ap (at_number q) pushed ∙ at_pushed k q f es (entries_below address k es ps p are)) ordered paired (λ u is. refl)
@@ -52,13 +52,13 @@ module _ {O : Type 0} (address : O → List ℕ) (k : ℕ) (es : List (ℕ × Fi
     -- ---- a holder more or less
 
     module _ (count : ℕ) (entries : fs ≡ set_value (is_at (nat_cmp n)) es (record { content = f.content; holders = count })) where
-      pub shown_set : (hs : List ℕ) → holders_in qs n ≡ hs → with_addresses address qs fs ≡ set_value (is_at (nat_cmp n)) all (a, record { content = f.content; holders = hs })
+      pub shown_set : (hs : List ℕ) → holders_in qs n ≡ hs → with_addresses address qs fs ≡ set_value (is_at (nat_cmp n)) all (a, record { content = f.content; holders = hs; number = n })
       shown_set hs is =
           ap (with_addresses address qs) entries ∙ set_with address ps qs n (holders_elsewhere t n b ps qs changes paired.ordered ordered) (record { content = f.content; holders = count }) es in_order
-          ∙ ap₂ (λ (c : List ℕ) (hs : List ℕ). set_value (is_at (nat_cmp n)) all (c, record { content = f.content; holders = hs })) hash is
+          ∙ ap₂ (λ (c : List ℕ) (hs : List ℕ). set_value (is_at (nat_cmp n)) all (c, record { content = f.content; holders = hs; number = n })) hash is
 
       pub numbered_set : IsStrictlySortedBy nat_cmp (keys_of fs) → AreNumbered k (with_addresses address qs fs) p
-      numbered_set sorted = numbered_after address k es ps p are (with_addresses address qs fs) a n (with_address address ps n f).1 (record { content = f.content; holders = holders_in qs n }) (addressed_at address k es ps p are a n f at hash)
+      numbered_set sorted = numbered_after address k es ps p are (with_addresses address qs fs) a n (with_address address ps n f).1 (record { content = f.content; holders = holders_in qs n; number = n }) (addressed_at address k es ps p are a n f at hash)
           (shown_set (holders_in qs n) refl) (ordered_with address qs fs sorted)
 
       pub catalog_set : (x : ModelCatalog O) → catalog_of k all ≡ x → (hs : List ℕ) → holders_in qs n ≡ hs → 0 < length hs → catalog_of k (with_addresses address qs fs) ≡ record x { objects = with_holders address x.objects a (with_address address ps n f).1 hs }

@@ -1,5 +1,5 @@
 -- Filed objects by the numbers of their filings, as the list of objects that a catalog shows.
-use Rattle.std.proofs.Common.{◌≡◌, ◌∙◌, ◌+◌, ◌<◌, ℕ, Bool, true, false, List, [], ◌∷◌, ◌++◌, Option, Some, None, cond, refl, ap, sym, subst, arith, length}
+use Rattle.std.proofs.Common.{◌≡◌, ◌∙◌, ◌+◌, ◌<◌, ◌≤◌, ℕ, Bool, true, false, List, [], ◌∷◌, ◌++◌, Option, Some, None, cond, refl, ap, sym, subst, arith, length}
 use Rattle.std.specs.Prelude.{IsSome}
 use Rattle.std.specs.BTreeMap.{is_at}
 use Rattle.std.specs.List.{AllByRecursion}
@@ -85,6 +85,10 @@ module _ {O : Type 0} (address : O → List ℕ) (k : ℕ) (es : List (ℕ × Fi
 
   pub next_is_fresh : at_number k es ≡ None
   next_is_fresh = is_fresh es k before
+
+  -- and below each later one
+  pub numbered_below : (n : ℕ) → k ≤ n → AreNumbered n all p
+  numbered_below n later = record { ordered = are.ordered; before = λ m o at. let below = are.before m o at in omega (arith, below, later); there = are.there; found = are.found }
 
   module _ (x : ModelCatalog O) (is : catalog_of k all ≡ x) where
     shown_is : (a : List ℕ) → object_among address (shown all) a ≡ object_among address x.objects a

@@ -225,7 +225,7 @@ module _ {P O : Type 0} (len : P → ℕ) (size : O → ℕ) (address : O → Li
 
   new_same : (b : ModelBooks P O) (number : ℕ) (content : O) (o : Option (ModelOwnedUpload P)) → bare len size address (with_new b number content o) ≡ with_new (bare len size address b) number (label_of size address content) (option_map (bare_begun len) o)
   new_same b number content None = refl
-  new_same b number content (Some u) = ap₂ (with_both b) (removed_same b number) (map-append (bare_object size address) b.objects (record { content = content; holders = u.tenant ∷ [] } ∷ []))
+  new_same b number content (Some u) = ap₂ (with_both b) (removed_same b number) (map-append (bare_object size address) b.objects (record { content = content; holders = u.tenant ∷ []; number = b.entry_count } ∷ []))
 
   known_same : (b : ModelBooks P O) (number : ℕ) (at : List ℕ) (o : Option (ModelOwnedUpload P)) (f : Option (Filed O))
       → bare len size address (with_known address b number at o f) ≡ with_known label_address (bare len size address b) number at (option_map (bare_begun len) o) (option_map (bare_object size address) f)

@@ -50,7 +50,7 @@ module _ {O : Type 0} (address : O → List ℕ) where
 
   same_with : (ps qs : Pairs) (es : Entries) → AllByRecursion (λ e. holders_in qs e.0 ≡ holders_in ps e.0) es → with_addresses address qs es ≡ with_addresses address ps es
   same_with ps qs [] h = refl
-  same_with ps qs (e ∷ es) h = ap₂ (λ (hs : List ℕ) (xs : List (ℕ × (List ℕ × Filed O))). (e.0, (address e.1.content, record { content = e.1.content; holders = hs })) ∷ xs) h.0 (same_with ps qs es h.1)
+  same_with ps qs (e ∷ es) h = ap₂ (λ (hs : List ℕ) (xs : List (ℕ × (List ℕ × Filed O))). (e.0, (address e.1.content, record { content = e.1.content; holders = hs; number = e.0 })) ∷ xs) h.0 (same_with ps qs es h.1)
 
   module _ (ps qs : Pairs) (k : ℕ) (others : (n : ℕ) → k ≢ n → holders_in qs n ≡ holders_in ps n) where
     others_after : (e : ℕ × FiledObject O) (es : Entries) → k ≡ e.0 → AllByRecursion (λ n. nat_cmp e.0 n ≡ Less) (keys_of es) → AllByRecursion (λ f. holders_in qs f.0 ≡ holders_in ps f.0) es
@@ -70,14 +70,14 @@ module _ {O : Type 0} (address : O → List ℕ) where
     set_with f [] ordered = refl
     set_with f (e ∷ es) ordered = elim (cases_eq k e.0) [
       | inl here ↦ rw (at_same k e.0 here) (ap₂ (λ (n : ℕ) (xs : List (ℕ × (List ℕ × Filed O))). (e.0, with_address address qs n f) ∷ xs) (sym here) (same_with ps qs es (others_after e es here (sorted_head nat_cmp e.0 (keys_of es) ordered))))
-      | inr apart ↦ rw (at_other k e.0 apart) (ap₂ (λ (hs : List ℕ) (xs : List (ℕ × (List ℕ × Filed O))). (e.0, (address e.1.content, record { content = e.1.content; holders = hs })) ∷ xs) (others e.0 apart) (set_with f es (sorted_tail nat_cmp e.0 (keys_of es) ordered)))
+      | inr apart ↦ rw (at_other k e.0 apart) (ap₂ (λ (hs : List ℕ) (xs : List (ℕ × (List ℕ × Filed O))). (e.0, (address e.1.content, record { content = e.1.content; holders = hs; number = e.0 })) ∷ xs) (others e.0 apart) (set_with f es (sorted_tail nat_cmp e.0 (keys_of es) ordered)))
     ]
 
     pub removed_with : (es : Entries) → IsStrictlySortedBy nat_cmp (keys_of es) → with_addresses address qs (remove_entry (is_at (nat_cmp k)) es) ≡ remove_entry (is_at (nat_cmp k)) (with_addresses address ps es)
     removed_with [] ordered = refl
     removed_with (e ∷ es) ordered = elim (cases_eq k e.0) [
       | inl here ↦ rw (at_same k e.0 here) (same_with ps qs es (others_after e es here (sorted_head nat_cmp e.0 (keys_of es) ordered)))
-      | inr apart ↦ rw (at_other k e.0 apart) (ap₂ (λ (hs : List ℕ) (xs : List (ℕ × (List ℕ × Filed O))). (e.0, (address e.1.content, record { content = e.1.content; holders = hs })) ∷ xs) (others e.0 apart) (removed_with es (sorted_tail nat_cmp e.0 (keys_of es) ordered)))
+      | inr apart ↦ rw (at_other k e.0 apart) (ap₂ (λ (hs : List ℕ) (xs : List (ℕ × (List ℕ × Filed O))). (e.0, (address e.1.content, record { content = e.1.content; holders = hs; number = e.0 })) ∷ xs) (others e.0 apart) (removed_with es (sorted_tail nat_cmp e.0 (keys_of es) ordered)))
     ]
 
   -- nothing changes

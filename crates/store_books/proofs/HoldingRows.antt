@@ -220,7 +220,7 @@ module _ {O : Type 0} (size : O → ℕ) (address : O → List ℕ) where
       → map (λ n. reported (at_number n m)) (filter (λ n. has t (holders_in ps n)) (keys_of es)) ≡ listed size address t (shown (with_addresses address ps es))
   copied_entries t ps m [] h = refl
   copied_entries t ps m (e ∷ es) h =
-      let o : Filed O = record { content = e.1.content; holders = holders_in ps e.0 } in
+      let o : Filed O = record { content = e.1.content; holders = holders_in ps e.0; number = e.0 } in
       listed_step (has t (holders_in ps e.0)) (reported (Some e.1)) o (filter (is_held_by t) (shown (with_addresses address ps es))) e.0 (filter (λ n. has t (holders_in ps n)) (keys_of es)) (λ n. reported (at_number n m))
       (λ o. (address o.content, size o.content)) (ap reported h.0) (copied_entries t ps m es h.1)
 

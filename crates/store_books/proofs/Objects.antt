@@ -50,8 +50,8 @@ module _ {O : Type 0} (size : O → ℕ) where
   weight_use q o [] = refl
   weight_use q o (h ∷ holders) = refl
 
-  used_by : (q : ℕ) (content : O) (t : ℕ) → use_by size q (record { content = content; holders = t ∷ [] }) ≡ where_so (t == q) (size content)
-  used_by q content t = by (t == q)
+  used_by : (q : ℕ) (content : O) (t number : ℕ) → use_by size q (record { content = content; holders = t ∷ []; number = number }) ≡ where_so (t == q) (size content)
+  used_by q content t number = by (t == q)
     where
       by : (b : Bool) → cond (b || false) (size content) 0 ≡ where_so b (size content)
       by true = refl
@@ -87,11 +87,11 @@ module _ {P O : Type 0} (len : P → ℕ) (size : O → ℕ) (address : O → Li
   files b number content u n is found sound room ready absent long =
       let was = found_among len size address b number u found sound in
       let uploads = without len size address n n b number u found sound in
-      let o : Filed O = record { content = content; holders = u.tenant ∷ [] } in
+      let o : Filed O = record { content = content; holders = u.tenant ∷ []; number = b.entry_count } in
       let whole = whole_is len u.upload was.1 ready in
       let within = sound.within u.tenant was.0 in
       let uses = sum_by_push (use_by size u.tenant) b.objects o in
-      let mine : use_by size u.tenant o ≡ length_of u.upload = used_by size u.tenant content u.tenant ∙ ap (λ (x : Bool). where_so x (size content)) (eq-eqb u.tenant u.tenant refl) ∙ long in
+      let mine : use_by size u.tenant o ≡ length_of u.upload = used_by size u.tenant content u.tenant b.entry_count ∙ ap (λ (x : Bool). where_so x (size content)) (eq-eqb u.tenant u.tenant refl) ∙ long in
       let bytes = sum_by_push (λ (x : Filed O). size x.content) b.objects o in
       let reserved = uploads.reserved in
       record {
@@ -103,7 +103,7 @@ module _ {P O : Type 0} (len : P → ℕ) (size : O → ℕ) (address : O → Li
           apart = apart_filed address b.objects o sound.apart absent;
           used = record { is = omega (arith, uses, mine, is); low = omega arith };
           others = λ q apart.
-              let other = used_by size q content u.tenant ∙ ap (λ (x : Bool). where_so x (size content)) (ne_eqb u.tenant q apart) in
+              let other = used_by size q content u.tenant b.entry_count ∙ ap (λ (x : Bool). where_so x (size content)) (ne_eqb u.tenant q apart) in
               let sum = sum_by_push (use_by size q) b.objects o in
               omega (arith, other, sum);
           bytes = record { is = omega (arith, bytes, long, is); low = omega arith };

@@ -107,7 +107,8 @@ module _ {P O : Type 0} (len : P → ℕ) (size : O → ℕ) (address : O → Li
   -- such a command has room in the accounts, and what it leaves is kept
   pub record Takes (k : KeptBooks P O) (t : ℕ) (less more : Amounts) (c : ModelBooks P O) : Type 0 where
     pub room : HasRoom k.accounts t less more
-    pub kept : {accounts : ModelAccounts} {us : List (ℕ × ModelOwnedUpload P)} {catalog : ModelCatalog O} {filings : ℕ} → accounts ≡ changed k.accounts t less more → us ≡ c.uploads → catalog ≡ record { objects = c.objects; filings = filings } → filings ≤ k.catalog.filings + 1
+    pub kept : {accounts : ModelAccounts} {us : List (ℕ × ModelOwnedUpload P)} {catalog : ModelCatalog O} {filings : ℕ} → accounts ≡ changed k.accounts t less more → us ≡ c.uploads → catalog ≡ record { objects = c.objects; filings = filings }
+        → (k.catalog.filings ≤ k.accounts.entry_count → filings ≤ k.accounts.entry_count + 1)
         → IsKept len size address (record { limits = k.limits; accounts = accounts; begun = c.begun; uploads = us; catalog = catalog })
 
   room_for : {t : ℕ} {less more : Amounts} {c : ModelBooks P O} (k : KeptBooks P O) → IsKept len size address k → Moves t less more (view_of k) c → HasRoom k.accounts t less more
@@ -169,7 +170,7 @@ module _ {P O : Type 0} (len : P → ℕ) (size : O → ℕ) (address : O → Li
               all = record {
                 sound = subst (λ (ls : List ℕ). AreSound len size address (record (next (view_of k) c) { tenant_limits = ls })) (sym limits) sound;
                 sums = λ n within. let sums = summed_after k is m n within in record { used = sums.used; reserved = sums.reserved };
-                filings = omega (arith, few, kept.filings);
+                filings = few kept.filings;
                 object_bytes_is = omega (arith, kept.object_bytes_is, bytes.is, bytes.low);
                 held_is = omega (arith, kept.held_is, held.is, held.low);
                 parts_is = omega (arith, kept.parts_is, parts.is, parts.low);

@@ -27,10 +27,12 @@ pub record ModelOwnedUpload (P : Type 0) : Type 0 where
   pub tenant : ℕ
   pub upload : ModelUpload P
 
--- an object, and the tenants that hold it, by number
+-- An object, the tenants that hold it, by number, and how many commands were accepted before it was filed: that is the number of the seal's
+-- entry in the journal.
 pub record Filed (O : Type 0) : Type 0 where
   pub content : O
   pub holders : List ℕ
+  pub number : ℕ
 
 pub record ModelBooks (P O : Type 0) : Type 0 where
   -- the maximum numbers of tenants, entries, and workers of an upload

@@ -159,7 +159,7 @@ module _ {P O : Type 0} where
   -- the upload is removed, and its content is filed last
   abbrev pub with_new : ModelBooks P O → ℕ → O → Option (ModelOwnedUpload P) → ModelBooks P O
   with_new b number content None = b
-  with_new b number content (Some u) = record (without_upload b number) { objects = b.objects ++ record { content = content; holders = u.tenant ∷ [] } ∷ [] }
+  with_new b number content (Some u) = record (without_upload b number) { objects = b.objects ++ record { content = content; holders = u.tenant ∷ []; number = b.entry_count } ∷ [] }
 
   abbrev pub with_filed : ModelBooks P O → ℕ → O → ModelBooks P O
   with_filed b number content = with_new b number content (upload_at b number)

@@ -18,7 +18,7 @@ module _ {O : Type 0} (size : O → ℕ) (address : O → List ℕ) where
   label_of o = record { address = address o; len = size o }
 
   abbrev pub bare_object : Filed O → Filed ObjectLabel
-  bare_object o = record { content = label_of o.content; holders = o.holders }
+  bare_object o = record { content = label_of o.content; holders = o.holders; number = o.number }
 
 module _ {P O : Type 0} (len : P → ℕ) (size : O → ℕ) (address : O → List ℕ) where
   abbrev pub bare : ModelBooks P O → Bare

@@ -35,13 +35,13 @@ pub record IsSummed {P O : Type 0} (size : O → ℕ) (b : ModelBooks P O) (n : 
 pub record AreKept {P O : Type 0} (len : P → ℕ) (size : O → ℕ) (address : O → List ℕ) (b : ModelBooks P O) (tenants : List Tenant) (filed object_bytes held parts : ℕ) : Type 0 where
   pub sound : AreSound len size address b
   pub sums : (n : ℕ) → n < length tenants → IsSummed size b n (tenant_at tenants n)
-  -- each filing was a seal
+  -- a filing has the number of its seal
   pub filings : filed ≤ b.entry_count
   pub object_bytes_is : object_bytes ≡ object_bytes_of size b
   pub held_is : held ≡ held_bytes_of len b
   pub parts_is : parts ≡ parts_of b
 
--- objects in filing order, and the number of filings
+-- objects in filing order, and a number above those of all filings so far
 pub record ModelCatalog (O : Type 0) : Type 0 where
   pub objects : List (Filed O)
   pub filings : ℕ

@@ -1,6 +1,6 @@
 //! Filed objects in filing order, found by their addresses, and who holds which.
 
-ghost use Rattle.std.specs.Prelude.{◌≡◌, ◌+◌, ◌-◌, ◌^◌, ◌<◌, ◌∷◌, ◌++◌, [], ℕ, List, length, map, nat_le, true, if◌then◌else◌};
+ghost use Rattle.std.specs.Prelude.{◌≡◌, ◌+◌, ◌-◌, ◌^◌, ◌<◌, ◌≤◌, ◌∷◌, ◌++◌, [], ℕ, List, length, map, nat_le, true, if◌then◌else◌};
 ghost use Rattle.std.specs.Prelude.{None, Some, IfNone, IfOk, IfSome, IsSome, OnErr, OnOk};
 ghost use Rattle.std.specs.BTreeMap.{WritesThrough, get};
 ghost use Rattle.std.specs.Ordering.{nat_cmp};
@@ -35,8 +35,8 @@ impl<O: Content> FiledObject<O> {
     }
 }
 
-// Each object is kept under the number of its filing. That number is kept under the object's address, and in a pair with each tenant that
-// holds it.
+// Each object is kept under the number of the entry by which it was filed. That number is kept under the object's address, and in a pair with
+// each tenant that holds it. `filings` is above all these numbers.
 #[derive(Drop)]
 pub(crate) struct Catalog<O: Content, I: AddressIndex> {
     numbers: I,
@@ -45,7 +45,7 @@ pub(crate) struct Catalog<O: Content, I: AddressIndex> {
     held: BTreeSet<(u64, u64)>,
 }
 
-// In contracts it is the objects in filing order, and the number of filings.
+// In contracts it is the objects in filing order, and a number above those of all filings so far.
 impl<O: Content, I: AddressIndex> Model for Catalog<O, I> {
     ghost use Rattle.std.specs.Map.{values_of};
     ghost use Rattle.store_books.specs.Kept.{ModelCatalog};
@@ -157,16 +157,22 @@ impl<O: Content, I: AddressIndex> Catalog<O, I> {
         Ok(list)
     }
 
-    /// Files an object with one holder as the last one. A failure leaves everything unchanged.
-    pub(crate) fn file_last(&mut self, content: O, tenant: u64) -> Result<(), AllocError>
+    /// Files an object with one holder as the last one, under this number. A failure leaves everything unchanged.
+    pub(crate) fn file_last(
+        &mut self,
+        content: O,
+        tenant: u64,
+        number: u64,
+    ) -> Result<(), AllocError>
         requires absent { object_among O.address self.old.objects (O.address content) ≡ None }
-        requires room { self.old.filings < max_entries }
-        ensures filed { OnOk result (self.new ≡ record { objects = self.old.objects ++ record { content = content; holders = tenant ∷ [] } ∷ []; filings = self.old.filings + 1 }) }
+        requires later { self.old.filings ≤ number }
+        requires room { number < max_entries }
+        ensures filed { OnOk result (self.new ≡ record { objects = self.old.objects ++ record { content = content; holders = tenant ∷ []; number = number } ∷ []; filings = number + 1 }) }
         ensures unchanged { OnErr result (self.new ≡ self.old) }
     {
         let address = content.address();
-        self.numbers.insert(address, self.filings)?;
-        let Ok(_new) = self.held.insert((tenant, self.filings)) else {
+        self.numbers.insert(address, number)?;
+        let Ok(_new) = self.held.insert((tenant, number)) else {
             self.numbers.remove(address);
             return Err(AllocError);
         };
@@ -174,12 +180,12 @@ impl<O: Content, I: AddressIndex> Catalog<O, I> {
             content,
             holders: 1,
         };
-        let Ok(_none) = self.filed.insert(self.filings, filed) else {
-            let _undone = self.held.remove(&(tenant, self.filings));
+        let Ok(_none) = self.filed.insert(number, filed) else {
+            let _undone = self.held.remove(&(tenant, number));
             self.numbers.remove(address);
             return Err(AllocError);
         };
-        self.filings += 1;
+        self.filings = number + 1;
         Ok(())
     }
 

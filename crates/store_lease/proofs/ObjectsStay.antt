@@ -115,7 +115,7 @@ module _ (tenant : ℕ) (at bytes : List ℕ) where
   new_holds : (b : ModelStoreBooks) (number : ℕ) (content : List ℕ) (u : Option (ModelOwnedUpload (List ℕ))) → Holds b tenant at bytes → Holds (with_new b number content u) tenant at bytes
   new_holds b number content None was = was
   new_holds b number content (Some u) was =
-      record { object = was.object; found = found_front hash_of b.objects (record { content = content; holders = u.tenant ∷ [] } ∷ []) at was.object was.found; same = was.same; held = was.held }
+      record { object = was.object; found = found_front hash_of b.objects (record { content = content; holders = u.tenant ∷ []; number = b.entry_count } ∷ []) at was.object was.found; same = was.same; held = was.held }
 
   known_holds : (b : ModelStoreBooks) (number : ℕ) (other : List ℕ) (u : Option (ModelOwnedUpload (List ℕ))) (o : Option ModelObject) → object_at hash_of b other ≡ o → Holds b tenant at bytes → Holds (with_known hash_of b number other u o) tenant at bytes
   known_holds b number other None o known was = was
@@ -182,7 +182,7 @@ seal_holds b upload u None found none = by (upload_at b upload) found
     by : (o : Option (ModelOwnedUpload (List ℕ))) → o ≡ Some u → Holds (with_new b upload (content_in b upload) o) u.tenant at (content_in b upload)
     by None is = absurd (cc is)
     by (Some v) is =
-        let o : ModelObject = record { content = content_in b upload; holders = v.tenant ∷ [] } in
+        let o : ModelObject = record { content = content_in b upload; holders = v.tenant ∷ []; number = b.entry_count } in
         record { object = o; found = found_last hash_of b.objects o at refl none; same = refl; held = ap (λ (x : Bool). x || false) (eq-eqb v.tenant u.tenant (ap tenant_in is)) }
 seal_holds b upload u (Some object) found known = by (upload_at b upload) (object_at hash_of b at) found known
   where

@@ -36,7 +36,7 @@ holders_in pairs number = map (λ p. p.0) (filter (λ p. p.1 == number) pairs)
 module _ {O : Type 0} (address : O → List ℕ) (pairs : List (ℕ × ℕ)) where
   -- an object under a number, with its address and its holders
   abbrev pub with_address : ℕ → FiledObject O → List ℕ × Filed O
-  with_address number f = (address f.content, record { content = f.content; holders = holders_in pairs number })
+  with_address number f = (address f.content, record { content = f.content; holders = holders_in pairs number; number = number })
 
   -- the objects by number, each with its address and its holders
   abbrev pub with_addresses : List (ℕ × FiledObject O) → List (ℕ × (List ℕ × Filed O))

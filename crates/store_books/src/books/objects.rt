@@ -69,7 +69,8 @@ impl<H: HeldParts, O: Content, I: AddressIndex> Books<H, O, I> {
         };
         let tenant = begun.tenant();
         let len = begun.upload().length();
-        self.catalog.file_last(content, tenant)?;
+        let entry = self.accounts.entry_count;
+        self.catalog.file_last(content, tenant, entry)?;
         let more = Amounts {
             used: len,
             object_bytes: len,

@@ -19,4 +19,4 @@ take_out-requires-clause-room g c = let was = aborts c.args.number c.self.invari
 pub invariant_of-self : goal.invariant_of-self
 invariant_of-self g c =
     let was = aborts c.args.number c.self.invariant c.self.view_is c.requires in
-    was.2.kept (c.take_out.ensures.accounts was.0 was.1) c.take_out.ensures.removed refl (omega arith)
+    was.2.kept (c.take_out.ensures.accounts was.0 was.1) c.take_out.ensures.removed refl (λ few. omega (arith, few))

@@ -28,7 +28,7 @@ pub invariant_of-self-2 : goal.invariant_of-self-2
 invariant_of-self-2 g c =
     let new = c.new-begun.ensures ∙ ap (λ u. record { tenant = c.args.tenant; upload = u }) c.new.ensures in
     let uploads = last c.new-begun.result _ c.self.invariant c.in-Ok.ensures.entries new in
-    (starts c.args.tenant c.args.plan _ c.self.invariant c.self.view_is c.bound-reserved.ensures.value c.requires).kept c.change.ensures.accounts uploads refl (omega arith)
+    (starts c.args.tenant c.args.plan _ c.self.invariant c.self.view_is c.bound-reserved.ensures.value c.requires).kept c.change.ensures.accounts uploads refl (λ few. omega (arith, few))
 
 pub returns-clause-begun : goal.returns-clause-begun
 returns-clause-begun g c =

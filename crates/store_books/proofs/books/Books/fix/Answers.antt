@@ -22,4 +22,4 @@ change-requires g c =
 pub invariant_of-self : goal.invariant_of-self
 invariant_of-self g c =
     let was = fixes c.args.number c.args.len c.self.invariant c.self.view_is c.requires in
-    was.2.kept (rw (c.fix-resized.ensures.resized was.0 was.1) at c.change.ensures.accounts) (c.fix-resized.ensures.fixed was.0 was.1) refl (omega arith)
+    was.2.kept (rw (c.fix-resized.ensures.resized was.0 was.1) at c.change.ensures.accounts) (c.fix-resized.ensures.fixed was.0 was.1) refl (λ few. omega (arith, few))

@@ -31,4 +31,4 @@ invariant_of-self g c =
     let bytes = c.freed.ensures ∙ ap₂ (λ (x : Bool) (y : ℕ). where_so x y) known.is_alone known.size in
     let new = c.drop_holder-freed.ensures.left known.object known.found in
     (forgets c.args.tenant c.args.address known.object _ c.freed.result c.self.invariant c.self.view_is known.found known.size bytes c.requires).kept
-    c.change.ensures.accounts refl new (omega arith)
+    c.change.ensures.accounts refl new (λ few. omega (arith, few))

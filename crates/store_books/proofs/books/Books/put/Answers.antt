@@ -25,4 +25,4 @@ change-requires g c =
 pub invariant_of-self-2 : goal.invariant_of-self-2
 invariant_of-self-2 g c =
     let was = adds c.args.number _ (g.H.HeldParts.kept c.args.part) c.self.invariant c.self.view_is c.requires.fits c.requires.free in
-    was.2.kept (rw (c.in_ok-resized.ensures.resized was.0 was.1, c.len_of-len.ensures) at c.change.ensures.accounts) (c.in_ok-resized.ensures.put was.0 was.1) refl (omega arith)
+    was.2.kept (rw (c.in_ok-resized.ensures.resized was.0 was.1, c.len_of-len.ensures) at c.change.ensures.accounts) (c.in_ok-resized.ensures.put was.0 was.1) refl (λ few. omega (arith, few))

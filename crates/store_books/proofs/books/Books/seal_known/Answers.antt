@@ -31,4 +31,4 @@ invariant_of-self-2 g c =
     let more = c.more_used-used.ensures ∙ ap₂ (λ (x : Bool) (y : ℕ). where_so (not x) y) (known.is_holder ∙ ap (λ t. is_held_by t known.object) c.tenant-tenant.ensures) known.size in
     let new = c.in_ok-add_holder.ensures.objects known.object known.found in
     (seals c.args.number c.args.address u known.object c.more_used-used.result c.self.invariant c.self.view_is found known.found more c.requires.free).kept
-    (c.take_out.ensures.accounts u found) c.take_out.ensures.removed (rw c.tenant-tenant.ensures at new) (omega arith)
+    (c.take_out.ensures.accounts u found) c.take_out.ensures.removed (rw c.tenant-tenant.ensures at new) (λ few. omega (arith, few))

@@ -33,4 +33,4 @@ invariant_of-self-2 g c =
     let long = c.length-len.ensures.value ∙ ap length_of c.upload.ensures in
     let new = c.in_ok-file_last.ensures.filed in
     (seals c.args.number c.args.content u c.length-len.result c.self.invariant c.self.view_is found long c.requires.ready c.requires.free c.requires.new c.requires.size).kept
-    (c.take_out.ensures.accounts u found) c.take_out.ensures.removed (rw c.tenant-tenant.ensures at new) (omega arith)
+    (c.take_out.ensures.accounts u found) c.take_out.ensures.removed (rw c.tenant-tenant.ensures at new) (λ few. omega (arith, few))
