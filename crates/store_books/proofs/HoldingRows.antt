@@ -33,7 +33,7 @@ rising_sorted : (m : ℕ) (xs : List ℕ) → IsStrictlySortedBy nat_cmp xs → 
 rising_sorted m [] sorted h = tt
 rising_sorted m (x ∷ xs) sorted h = (h.0, rising_sorted (x + 1) xs (sorted_tail nat_cmp x xs sorted) (all_later x xs (sorted_head nat_cmp x xs sorted)))
 
-rising : (xs : List ℕ) → IsStrictlySortedBy nat_cmp xs → IsRisingFrom 0 xs
+pub rising : (xs : List ℕ) → IsStrictlySortedBy nat_cmp xs → IsRisingFrom 0 xs
 rising [] sorted = tt
 rising (x ∷ xs) sorted = (omega arith, rising_sorted (x + 1) xs (sorted_tail nat_cmp x xs sorted) (all_later x xs (sorted_head nat_cmp x xs sorted)))
 
@@ -155,7 +155,7 @@ filter_has test q (x ∷ xs) = filter_step test q x xs (filter test xs) (filter_
 module _ {O : Type 0} where
   -- ---- the objects that the tenant holds
 
-  abbrev kept : ℕ → Pairs → List (ℕ × FiledObject O) → List ℕ
+  abbrev pub kept : ℕ → Pairs → List (ℕ × FiledObject O) → List ℕ
   kept t ps es = filter (λ n. has t (holders_in ps n)) (keys_of es)
 
   keyed_step : (b : Bool) (x : FiledObject O) (found : Option (FiledObject O)) → (b || is_some found) ≡ is_some (cond b (Some x) found)
@@ -182,11 +182,11 @@ module _ {O : Type 0} where
     kept_has : (q : ℕ) → has q (kept t ps es) ≡ (is_some (at_number q es) && is_paired ps t q)
     kept_has q = filter_has (λ n. has t (holders_in ps n)) q (keys_of es) ∙ ap (λ (b : Bool). b && has t (holders_in ps q)) (keyed q es) ∙ ap (λ (b : Bool). is_some (at_number q es) && b) (has_pair t q ps)
 
-    row_is : row t k ps ≡ kept t ps es
+    pub row_is : row t k ps ≡ kept t ps es
     row_is = same_rows 0 (row t k ps) (kept t ps es) (row_rising t k 0 ps are.ordered (from_none t ps)) (rising (kept t ps es) (IsStrictlySortedBy-filter nat_cmp (λ n. has t (holders_in ps n)) (keys_of es) ordered))
         (λ q. row_has t k q ps ∙ paired_before q ∙ sym (kept_has q))
 
-    all_some : (ns : List ℕ) → AllByRecursion (λ n. IsSome (at_number n es)) (filter (λ n. has t (holders_in ps n)) ns)
+    pub all_some : (ns : List ℕ) → AllByRecursion (λ n. IsSome (at_number n es)) (filter (λ n. has t (holders_in ps n)) ns)
     all_some [] = tt
     all_some (n ∷ ns) = elim (cases_Bool (has t (holders_in ps n))) [
       | inl held ↦ rw held (are.filed_is t n (sym (has_pair t n ps) ∙ held), all_some ns)
@@ -212,7 +212,7 @@ module _ {O : Type 0} (size : O → ℕ) (address : O → List ℕ) where
   abbrev pub reported_of : List (ℕ × FiledObject O) → Pairs → List (List ℕ × ℕ)
   reported_of es ps = map (λ p. reported (at_number p.1 es)) ps
 
-  reported_row : (es : List (ℕ × FiledObject O)) (ps : Pairs) → reported_of es ps ≡ map (λ n. reported (at_number n es)) (map (λ p. p.1) ps)
+  pub reported_row : (es : List (ℕ × FiledObject O)) (ps : Pairs) → reported_of es ps ≡ map (λ n. reported (at_number n es)) (map (λ p. p.1) ps)
   reported_row es [] = refl
   reported_row es (p ∷ ps) = ap (λ xs. reported (at_number p.1 es) ∷ xs) (reported_row es ps)
 

@@ -8,6 +8,8 @@ pub mod HeldObjects
 pub mod Catalogs
 pub mod CatalogChanges
 pub mod HoldingRows
+pub mod PageRows
+pub mod Pages
 pub mod Sums
 pub mod Commands
 pub mod NewTenant

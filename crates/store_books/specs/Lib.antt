@@ -2,6 +2,7 @@
 pub mod Books
 pub mod Commands
 pub mod Questions
+pub mod Pages
 pub mod Refusals
 pub mod Totals
 pub mod Kept

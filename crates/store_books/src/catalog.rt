@@ -5,16 +5,18 @@ ghost use Rattle.std.specs.Prelude.{None, Some, IfNone, IfOk, IfSome, IsSome, On
 ghost use Rattle.std.specs.BTreeMap.{WritesThrough, get};
 ghost use Rattle.std.specs.Ordering.{nat_cmp};
 ghost use Rattle.store_books.specs.declared.catalog.FiledObject.{FiledObject as ModelFiledObject};
-ghost use Rattle.store_books.specs.Books.{Filed as Item, is_held_by, max_entries, object_among};
+ghost use Rattle.store_books.specs.Books.{Filed as Item, IsRisingFrom, is_held_by, max_entries, object_among};
 ghost use Rattle.store_books.specs.Forgetting.{label_of};
 ghost use Rattle.store_books.specs.inner.Catalog.{IsKnown};
 ghost use Rattle.store_books.specs.Commands.{with_holder, with_holders, without_holder};
+ghost use Rattle.store_books.specs.Pages.{page_of};
 ghost use Rattle.store_books.specs.Questions.{holders_at, listed};
 
 use crate::address::Address;
 use crate::content::{Content, ObjectLabel};
 use crate::index::AddressIndex;
 use crate::known::Known;
+use crate::page::ObjectPage;
 use std::alloc::{AllocError, Global};
 use std::collections::{BTreeMap, BTreeSet};
 use std::marker::Model;
@@ -155,6 +157,36 @@ impl<O: Content, I: AddressIndex> Catalog<O, I> {
             list.push((filed.content.address(), filed.content.length()))?;
         }
         Ok(list)
+    }
+
+    /// Those of the objects that a tenant holds whose numbers are at least `from`, and at most `count` of them.
+    pub(crate) fn page(
+        &self,
+        alloc: Global,
+        tenant: u64,
+        from: u64,
+        count: u64,
+    ) -> Result<ObjectPage, AllocError>
+        ensures page { IfOk result (λ page. page ≡ page_of O.size O.address tenant from count self.now.objects) }
+        ensures rising { IsRisingFrom 0 (map (λ o. o.number) self.now.objects) }
+    {
+        let filed = &self.filed;
+        let mut objects = Vec::new(alloc);
+        let mut next = from;
+        let first = from.min(self.filings);
+        for pair in self
+            .held
+            .range((tenant, first)..(tenant, self.filings))
+            .take(count as usize)
+        {
+            let (_, number) = *pair;
+            let Some(found) = filed.get(&number) else {
+                unreachable!();
+            };
+            objects.push((found.content.address(), found.content.length()))?;
+            next = number + 1;
+        }
+        Ok(ObjectPage::new(objects, next))
     }
 
     /// Files an object with one holder as the last one, under this number. A failure leaves everything unchanged.

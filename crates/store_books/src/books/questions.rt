@@ -1,8 +1,9 @@
 //! Questions.
 
 ghost use Rattle.std.specs.Prelude.{◌≡◌, IfOk, map, slice_get};
-ghost use Rattle.store_books.specs.Books.{ModelOwnedUpload};
+ghost use Rattle.store_books.specs.Books.{IsRisingFrom, ModelOwnedUpload};
 ghost use Rattle.store_books.specs.Forgetting.{label_of};
+ghost use Rattle.store_books.specs.Pages.{page_of};
 ghost use Rattle.store_books.specs.Questions.{holders_at, listed, open_upload_of, open_uploads, usage_in, usages_of};
 
 use crate::address::Address;
@@ -10,6 +11,7 @@ use crate::begun::OwnedUpload;
 use crate::books::{Books, UploadStatus, Usage};
 use crate::content::{Content, ObjectLabel};
 use crate::index::AddressIndex;
+use crate::page::ObjectPage;
 use crate::refusal::Refusal;
 use crate::upload_id::UploadId;
 use std::alloc::{AllocError, Global};
@@ -69,6 +71,20 @@ impl<H: HeldParts, O: Content, I: AddressIndex> Books<H, O, I> {
         ensures { IfOk result (λ list. list.items ≡ listed O.size O.address tenant self.now.objects) }
     {
         self.catalog.list(alloc, tenant)
+    }
+
+    /// Those of the objects that a tenant holds whose numbers are at least `from`, and at most `count` of them, in filing order.
+    pub fn page(
+        &self,
+        alloc: Global,
+        tenant: u64,
+        from: u64,
+        count: u64,
+    ) -> Result<ObjectPage, AllocError>
+        ensures page { IfOk result (λ page. page ≡ page_of O.size O.address tenant from count self.now.objects) }
+        ensures rising { IsRisingFrom 0 (map (λ o. o.number) self.now.objects) }
+    {
+        self.catalog.page(alloc, tenant, from, count)
     }
 
     /// The open uploads of a tenant, by number. The time is linear in the number of all open uploads.
