@@ -9,6 +9,7 @@ use Rattle.store_books.specs.declared.refusal.Refusal.TheVariants.{NoMemory, NoT
 use Rattle.store_books.specs.Books.{is_absent, object_at, totals_of, upload_at}
 use Rattle.store_books.specs.Commands.{holding_refusal}
 use Rattle.store_books.specs.Questions as books
+use Rattle.store_books.specs.Pages.{ModelObjectPage, page_of}
 use Rattle.store_core.specs.declared.store.questions.Counts.{Counts}
 use Rattle.store_core.specs.declared.store.questions.Question.{Question}
 use Rattle.store_core.specs.declared.store.questions.Question.TheVariants as questions
@@ -45,6 +46,10 @@ holds_in s tenant address = unless (holding_refusal hash_of s tenant address) (o
 abbrev pub uploads_in : ModelStoreBooks → ℕ → Result (List UploadStatus) Refusal
 uploads_in s tenant = if is_absent s tenant then Err NoTenant else Ok (books.open_uploads length tenant s.uploads)
 
+-- the page of the objects that the tenant holds with numbers from `from` on, at most `count` of them
+abbrev pub objects_in : ModelStoreBooks → ℕ → ℕ → ℕ → Result ModelObjectPage Refusal
+objects_in s tenant from count = if is_absent s tenant then Err NoTenant else Ok (page_of length hash_of tenant from count s.objects)
+
 -- use, reservation and limit of each tenant, by number
 abbrev pub tenants_in : ModelStoreBooks → List Usage
 tenants_in s = books.usages_of length s
@@ -67,6 +72,7 @@ Answers store (questions.Usage tenant) reply = reply ≡ as_reply replies.Usage 
 Answers store (questions.List tenant) reply = AnswersAs as_is (as_reply replies.List (list_in store.state tenant)) reply
 Answers store (questions.Holds tenant address) reply = reply ≡ as_reply replies.Length (holds_in store.state tenant address)
 Answers store (questions.Uploads tenant) reply = AnswersAs as_is (as_reply replies.Uploads (uploads_in store.state tenant)) reply
+Answers store (questions.Objects tenant from count) reply = AnswersAs as_is (as_reply replies.Objects (objects_in store.state tenant from count)) reply
 Answers store questions.Tenants reply = AnswersAs as_is (Ok (replies.Tenants (tenants_in store.state))) reply
 Answers store questions.Totals reply = reply ≡ Ok (replies.Totals (totals_of length length store.state))
 Answers store questions.Counts reply = reply ≡ Ok (replies.Counts (counts_of store))

@@ -35,8 +35,8 @@ pub use laws::run_laws;
 pub use object::{Object, SharedObject};
 pub use store::{Counts, Held, Listing, Question, Reply, Sealed, Store};
 pub use store_books::{
-    Address, BadLimits, Limits, MAX_ENTRIES, MAX_LIMIT, MAX_TENANTS, Refusal, TenantId, Totals,
-    UploadId, UploadStatus, Usage,
+    Address, BadLimits, Limits, MAX_ENTRIES, MAX_LIMIT, MAX_TENANTS, ObjectPage, Refusal, TenantId,
+    Totals, UploadId, UploadStatus, Usage,
 };
 pub use store_journal::{
     AcceptedPuts, BadText, Entry, IllegalEntry, JournalWriter, ObjectLabel, ReadError, ReplayError,

@@ -6,6 +6,8 @@ ghost use Rattle.b3_core.specs.Modes.{hash_of};
 ghost use Rattle.store_books.specs.Books.{totals_of};
 ghost use Rattle.store_books.specs.Questions.{usage_in};
 ghost use Rattle.store_core.specs.Questions.{Answers, AnswersAs, counts_of, fetch_in, holds_in, list_in, plan_in, tenants_in, uploads_in};
+ghost use Rattle.store_core.specs.Questions.{objects_in};
+ghost use Rattle.store_core.specs.Commands.{as_is};
 
 use crate::command::SealReply;
 use crate::object::{Object, SharedObject};
@@ -13,16 +15,35 @@ use crate::store::{Held, Store, allow, shared};
 use b3_forest::Plan;
 use std::marker::Model;
 use std::sync::Arc;
-use store_books::{Address, Content, Refusal, TenantId, Totals, UploadId, UploadStatus, Usage};
+use store_books::{
+    Address, Content, ObjectPage, Refusal, TenantId, Totals, UploadId, UploadStatus, Usage,
+};
 
 /// A question to the store. It changes nothing.
 #[derive(Clone, Copy, Debug, PartialEq, Eq)]
 pub enum Question {
-    Fetch { tenant: TenantId, address: Address },
-    Usage { tenant: TenantId },
-    List { tenant: TenantId },
-    Holds { tenant: TenantId, address: Address },
-    Uploads { tenant: TenantId },
+    Fetch {
+        tenant: TenantId,
+        address: Address,
+    },
+    Usage {
+        tenant: TenantId,
+    },
+    List {
+        tenant: TenantId,
+    },
+    Holds {
+        tenant: TenantId,
+        address: Address,
+    },
+    Uploads {
+        tenant: TenantId,
+    },
+    Objects {
+        tenant: TenantId,
+        from: u64,
+        count: u64,
+    },
     Tenants,
     Totals,
     Counts,
@@ -41,6 +62,7 @@ pub enum Reply {
     List(Listing<(Address, u64)>),
     Length(u64),
     Uploads(Listing<UploadStatus>),
+    Objects(ObjectPage),
     Tenants(Listing<Usage>),
     Totals(Totals),
     Counts(Counts),
@@ -97,6 +119,11 @@ impl Store {
             Question::List { tenant } => Ok(Reply::List(Listing::new(self.list(tenant)?))),
             Question::Holds { tenant, address } => Ok(Reply::Length(self.holds(tenant, address)?)),
             Question::Uploads { tenant } => Ok(Reply::Uploads(Listing::new(self.uploads(tenant)?))),
+            Question::Objects {
+                tenant,
+                from,
+                count,
+            } => Ok(Reply::Objects(self.objects(tenant, from, count)?)),
             Question::Tenants => Ok(Reply::Tenants(Listing::new(self.tenants()?))),
             Question::Totals => Ok(Reply::Totals(self.totals())),
             Question::Counts => Ok(Reply::Counts(self.counts())),
@@ -175,6 +202,22 @@ impl Store {
         }
         match self.books.list(self.alloc, tenant.number()) {
             Ok(list) => Ok(list),
+            Err(_) => Err(Refusal::NoMemory),
+        }
+    }
+
+    /// Those of the objects that a tenant holds whose numbers are at least `from`, and at most `count` of them, in filing order. An object
+    /// has the number of the journal's entry by which it was filed. Refusals: S1, S14.
+    ///
+    /// Time: logarithmic in all pairs of a tenant and an object that it holds, and for each object of the page a look-up among the objects.
+    pub fn objects(&self, tenant: TenantId, from: u64, count: u64) -> Result<ObjectPage, Refusal>
+        ensures { AnswersAs as_is (objects_in self.now.state tenant from count) result }
+    {
+        if tenant.number() >= self.books.tenants() {
+            return Err(Refusal::NoTenant);
+        }
+        match self.books.page(self.alloc, tenant.number(), from, count) {
+            Ok(page) => Ok(page),
             Err(_) => Err(Refusal::NoMemory),
         }
     }
