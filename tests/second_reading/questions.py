@@ -1,4 +1,5 @@
 """The questions that a session has and a script does not: the line that asks each, as docs/COMMANDS.md has it, and its answer by the model."""
+import re
 
 
 def has(store, tenant, address):
@@ -17,6 +18,19 @@ def tenants(store):
     return [f"tenants {len(usages)}"] + usages
 
 
+def number_of(store, address):
+    """The number of the entry by which an object was filed."""
+    return max(number for number, entry in enumerate(store.journal) if re.fullmatch(f"seal [0-9]+ {address} new", entry))
+
+
+def objects(store, tenant, first, most):
+    store.tenant_at(tenant)
+    held = sorted((number_of(store, address), address, len(content)) for address, (content, holders) in store.objects.items() if tenant in holders)
+    page = [found for found in held if found[0] >= first][:most]
+    following = page[-1][0] + 1 if page else first
+    return [f"objects {following} {len(page)}"] + [f"{address} {length}" for _, address, length in page]
+
+
 def counts(store):
     return [f"entries {len(store.journal)} tenants {len(store.limits)} {store.stat()[0]}"]
 
@@ -28,6 +42,7 @@ def entries(store, first, most=None):
 QUESTIONS = {
     "has T ADDRESS": has,
     "uploads T": uploads,
+    "objects T FROM COUNT": objects,
     "tenants": tenants,
     "counts": counts,
     "entries FROM": entries,

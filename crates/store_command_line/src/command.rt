@@ -206,6 +206,8 @@ fn session_lines() -> &'static str {
         "\n  fetchb T ADDRESS    the object's bytes, raw; with FROM LEN, those of a range",
         "\n  has T ADDRESS       the object's length",
         "\n  uploads T           the tenant's open uploads",
+        "\n  objects T FROM COUNT",
+        "\n                      the tenant's objects with numbers from FROM on, at most COUNT of them",
         "\n  tenants             what each tenant uses",
         "\n  counts              the numbers of entries and tenants, and the store's totals",
         "\n  entries FROM        the journal's entries from number FROM on; with COUNT, at most COUNT of them",

@@ -143,6 +143,14 @@ listed : answer_text (Ok (replies.List ((10 ∷ [], 3) ∷ (11 ∷ [], 0) ∷ []
 unfolding on_literals
 listed = refl
 
+paged : answer_text (Ok (replies.Objects (record { objects = (10 ∷ [], 3) ∷ (11 ∷ [], 0) ∷ []; next = 8 }))) ≡ codes "objects 8 2\n0a 3\n0b 0\n"
+unfolding on_literals
+paged = refl
+
+no_page : answer_text (Ok (replies.Objects (record { objects = []; next = 18446744073709551615 }))) ≡ codes "objects 18446744073709551615 0\n"
+unfolding on_literals
+no_page = refl
+
 below_use : answer_text (Err (refusals.BelowUse 5)) ≡ codes "refused S4 use 5\n"
 unfolding on_literals
 below_use = refl

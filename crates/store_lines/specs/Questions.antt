@@ -3,7 +3,7 @@ use Rattle.std.specs.Prelude.{ℕ, List, [], ◌∷◌, ◌++◌, ◌+◌, Optio
 use Rattle.std.specs.Fmt.{decimal}
 use Rattle.std.specs.List.{flat_map}
 use Rattle.std.specs.Str.{bytes_eq}
-use Rattle.edge.specs.Fields.{◌>>=◌, number_at}
+use Rattle.edge.specs.Fields.{◌>>=◌, number_at, three_numbers_at}
 use Rattle.hex.specs.Hex.{encode_lower}
 use Rattle.store_books.specs.declared.books.UploadStatus.{UploadStatus}
 use Rattle.store_books.specs.declared.books.Usage.{Usage}
@@ -32,11 +32,17 @@ uploads_at fields = do
   tenant ← number_at fields
   Some (Asks (questions.Uploads tenant))
 
+abbrev pub objects_at : List ℕ → Option Request
+objects_at fields = do
+  numbers ← three_numbers_at fields
+  Some (Asks (questions.Objects numbers.0 numbers.1 numbers.2))
+
 -- the question of a word and the fields after it
 unfoldable pub question_of_kind : List ℕ → List ℕ → Option Request
 question_of_kind kind fields =
     if bytes_eq kind (codes "has") then holds_at fields
     else if bytes_eq kind (codes "uploads") then uploads_at fields
+    else if bytes_eq kind (codes "objects") then objects_at fields
     else None
 
 -- the question of a line that consists of one word
@@ -67,6 +73,14 @@ listed_line object = encode_lower object.0 ++ (codes " " ++ (decimal object.1 ++
 -- the number of objects, and the line of each
 abbrev pub list_text : List (List ℕ × ℕ) → List ℕ
 list_text objects = numbered (codes "list ") (length objects) ++ flat_map listed_line objects
+
+-- the number from which the next page lists objects, and how many this one has
+abbrev pub page_front : ℕ → ℕ → List ℕ
+page_front next len = codes "objects " ++ (decimal next ++ (codes " " ++ (decimal len ++ codes "\n")))
+
+-- these, and the line of each object
+abbrev pub page_text : ℕ → List (List ℕ × ℕ) → List ℕ
+page_text next objects = page_front next (length objects) ++ flat_map listed_line objects
 
 -- an upload's end, or a dash if it is not fixed
 abbrev pub end_text : Option ℕ → List ℕ
@@ -114,6 +128,7 @@ reply_text (replies.Usage u) = usage_text u
 reply_text (replies.List objects) = list_text objects
 reply_text (replies.Length len) = numbered (codes "has ") len
 reply_text (replies.Uploads uploads) = uploads_text uploads
+reply_text (replies.Objects page) = page_text page.next page.objects
 reply_text (replies.Tenants usages) = tenants_text usages
 reply_text (replies.Totals t) = totals_line t
 reply_text (replies.Counts c) = counts_line c

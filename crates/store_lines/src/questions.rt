@@ -6,13 +6,13 @@ ghost use Rattle.std.specs.List.{flat_map};
 ghost use Rattle.edge.specs.Output.{WroteSome};
 ghost use Rattle.store_lines.specs.Questions.{answer_text, counts_line, holds_at, list_text, listed_line, object_text, open_upload_line, question_of_kind};
 ghost use Rattle.store_lines.specs.Questions.{question_of_word, reply_text, tenant_line, tenant_lines, tenants_text, totals_line, uploads_at};
-ghost use Rattle.store_lines.specs.Questions.{uploads_text, usage_text};
+ghost use Rattle.store_lines.specs.Questions.{objects_at, page_front, page_text, uploads_text, usage_text};
 
 use crate::digits::write_digits;
 use crate::parsing::number_and_address;
 use crate::request::Request;
 use crate::texts::{write_held, write_made, write_numbered, write_refusal, write_sealed};
-use edge::{Cause, number};
+use edge::{Cause, number, three_numbers};
 use std::io::Write;
 use store_core::{
     Address, Counts, Object, Question, Refusal, Reply, TenantId, Totals, UploadStatus, Usage,
@@ -42,6 +42,9 @@ pub(crate) fn question_of_kind(kind: &[u8], fields: &[u8]) -> Option<Request>
     if kind == b"uploads".as_slice() {
         return uploads(fields);
     }
+    if kind == b"objects".as_slice() {
+        return objects(fields);
+    }
     None
 }
 
@@ -58,6 +61,18 @@ fn uploads(fields: &[u8]) -> Option<Request>
 {
     let tenant = TenantId::new(number(fields)?);
     Some(Request::Asks(Question::Uploads { tenant }))
+}
+
+fn objects(fields: &[u8]) -> Option<Request>
+    ensures { result ≡ objects_at fields.now }
+{
+    let (tenant, from, count) = three_numbers(fields)?;
+    let tenant = TenantId::new(tenant);
+    Some(Request::Asks(Question::Objects {
+        tenant,
+        from,
+        count,
+    }))
 }
 
 /// The answer to a step of the store.
@@ -91,6 +106,7 @@ fn write_reply<W: Write>(writer: &mut W, reply: Reply) -> Result<(), Cause>
         Reply::List(objects) => write_list(writer, objects.as_slice()),
         Reply::Length(len) => write_numbered(writer, "has ", len),
         Reply::Uploads(uploads) => write_uploads(writer, uploads.as_slice()),
+        Reply::Objects(page) => write_page(writer, page.next_number(), page.objects()),
         Reply::Tenants(usages) => write_tenants(writer, usages.as_slice()),
         Reply::Totals(totals) => write_totals(writer, totals),
         Reply::Counts(counts) => write_counts(writer, counts),
@@ -153,6 +169,23 @@ fn write_listed_line<W: Write>(writer: &mut W, object: (Address, u64)) -> Result
 {
     let (address, len) = object;
     write_made(writer, format_args!("{address} {len}\n"))
+}
+
+fn write_page<W: Write>(writer: &mut W, next: u64, objects: &[(Address, u64)]) -> Result<(), Cause>
+    ensures wrote { OnOk result (Appends (W.contents writer.old) (W.contents writer.new) (page_text next objects.now)) }
+    ensures failed { OnErr result (WroteSome (W.contents writer.old) (W.contents writer.new) (page_text next objects.now)) }
+    ensures cause { IfErr result (λ cause. cause ≡ Cause.CannotWrite) }
+{
+    write_page_front(writer, next, objects.len() as u64)?;
+    write_listed(writer, objects)
+}
+
+fn write_page_front<W: Write>(writer: &mut W, next: u64, len: u64) -> Result<(), Cause>
+    ensures wrote { OnOk result (Appends (W.contents writer.old) (W.contents writer.new) (page_front next len)) }
+    ensures failed { OnErr result (WroteSome (W.contents writer.old) (W.contents writer.new) (page_front next len)) }
+    ensures cause { IfErr result (λ cause. cause ≡ Cause.CannotWrite) }
+{
+    write_made(writer, format_args!("objects {next} {len}\n"))
 }
 
 fn write_uploads<W: Write>(writer: &mut W, uploads: &[UploadStatus]) -> Result<(), Cause>
