@@ -1,9 +1,9 @@
 //! Questions: as values, their replies, and the calls that answer them.
 
-ghost use Rattle.std.specs.Prelude.{◌≡◌, IfOk, length};
+ghost use Rattle.std.specs.Prelude.{◌≡◌, IfOk, length, map};
 ghost use Rattle.std.specs.Arc.{arc_value};
 ghost use Rattle.b3_core.specs.Modes.{hash_of};
-ghost use Rattle.store_books.specs.Books.{totals_of};
+ghost use Rattle.store_books.specs.Books.{IsRisingFrom, totals_of};
 ghost use Rattle.store_books.specs.Questions.{usage_in};
 ghost use Rattle.store_core.specs.Questions.{Answers, AnswersAs, counts_of, fetch_in, holds_in, list_in, plan_in, tenants_in, uploads_in};
 ghost use Rattle.store_core.specs.Questions.{objects_in};
@@ -211,7 +211,9 @@ impl Store {
     ///
     /// Time: logarithmic in all pairs of a tenant and an object that it holds, and for each object of the page a look-up among the objects.
     pub fn objects(&self, tenant: TenantId, from: u64, count: u64) -> Result<ObjectPage, Refusal>
-        ensures { AnswersAs as_is (objects_in self.now.state tenant from count) result }
+        ensures page { AnswersAs as_is (objects_in self.now.state tenant from count) result }
+        // `page_laws` of store_books needs this.
+        ensures rising { IfOk result (λ _. IsRisingFrom 0 (map (λ o. o.number) self.now.state.objects)) }
     {
         if tenant.number() >= self.books.tenants() {
             return Err(Refusal::NoTenant);
