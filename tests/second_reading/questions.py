@@ -1,6 +1,8 @@
 """The questions that a session has and a script does not: the line that asks each, as docs/COMMANDS.md has it, and its answer by the model."""
 import re
 
+MAX_REDO_ENTRIES, MAX_REDO_BYTES = 4096, 1 << 22
+
 
 def has(store, tenant, address):
     return [f"has {len(store.object_of(tenant, address)[0])}"]
@@ -35,6 +37,28 @@ def counts(store):
     return [f"entries {len(store.journal)} tenants {len(store.limits)} {store.stat()[0]}"]
 
 
+def redo(store, first, count):
+    """What redoes entries on another store: lines, with the bytes of objects after theirs. An object's bytes end the answer if they would be too many."""
+    owners = [int(entry.split(" ")[2]) for entry in store.journal if entry.startswith(("begin ", "open "))]
+    text, used, number = b"", 0, first
+    for entry in store.journal[first : first + min(count, MAX_REDO_ENTRIES)]:
+        word, *fields = entry.split(" ")
+        line, content = "", b""
+        if word == "tenant":
+            line = f"tenant {fields[1]}\n"
+        elif word in ("limit", "forget"):
+            line = f"{entry}\n"
+        elif word == "seal":
+            tenant, address = owners[int(fields[0])], fields[1]
+            filed, holders = store.objects.get(address, (b"", ()))
+            if tenant in holders:
+                line, content = f"fileas {tenant} {address} {len(filed)}\n", filed
+        if used and len(content) > max(0, MAX_REDO_BYTES - used):
+            break
+        text, used, number = text + line.encode() + content, used + len(content), number + 1
+    return [f"redo {number} {len(text)}", text]
+
+
 def entries(store, first, most=None):
     return store.entries_from(first, most)
 
@@ -45,6 +69,7 @@ QUESTIONS = {
     "objects T FROM COUNT": objects,
     "tenants": tenants,
     "counts": counts,
+    "redo FROM COUNT": redo,
     "entries FROM": entries,
     "entries FROM COUNT": entries,
 }

@@ -36,7 +36,8 @@ def bytes_after(line):
 
 
 def text_of(lines):
-    return "".join(line + "\n" for line in lines).encode()
+    """The text of lines; bytes are what follows a line."""
+    return b"".join(line if isinstance(line, bytes) else line.encode() + b"\n" for line in lines)
 
 
 def requests_with_ends(data):

@@ -17,7 +17,8 @@ TESTS = os.path.dirname(os.path.dirname(os.path.abspath(__file__)))
 sys.path[1:1] = [os.path.join(TESTS, name) for name in ("common", "second_reading")]
 from clients import join_clients, read_log, start_clients
 from deaths import asked, deaths
-from door import NoAnswer, Server
+from door import NoAnswer, Server, Session
+from following import Following
 from history import faults_of
 from judging import judged
 from lone import LONE_CASES
@@ -33,6 +34,8 @@ OF_LONE = {"half": "halves of commands", "lags": "answers before it waits", "wai
 """The cases that find the mistakes that no history of clients shows."""
 COMMANDS_TO_FIND = 4000
 TENANTS = 3
+FOLLOWER = 100
+"""The number of a client that is none of those that work."""
 
 
 def storm(program, clients, commands, seed, sessions=None):
@@ -53,6 +56,16 @@ def storm(program, clients, commands, seed, sessions=None):
     count = sum(map(len, histories))
     print(f"{clients} clients: {count} commands, {len(journal)} entries", flush=True)
     return found[:MAX_SHOWN]
+
+
+def followed(program, commands, seed):
+    """What is wrong with a second store that follows the first one while four clients send commands."""
+    with Server(program, 5) as server, Server(program, 1) as second:
+        for _ in range(TENANTS):
+            asked(server, "tenant 30000")
+        following = Following(Session(server.at, FOLLOWER), Session(second.at, FOLLOWER), seed)
+        found = join_clients(start_clients(server, seed, 4, commands), 60 + commands * SECONDS_PER_COMMAND)
+        return (following.end() + found)[:MAX_SHOWN]
 
 
 def finds(mistake, seed):
@@ -76,6 +89,7 @@ def cases(program, options):
     yield "four clients", lambda: storm(program, 4, half, options.seed)
     yield "sixteen clients", lambda: storm(program, 16, half, options.seed + 1)
     yield "sixteen clients of four sessions", lambda: storm(program, 16, half // 10, options.seed + 2, 4)
+    yield "a store that follows", lambda: followed(program, half // 5, options.seed + 3)
     yield "clients that are killed", lambda: deaths(program, options.minutes, options.seed)
     for name, case in LONE_CASES.items():
         yield name, functools.partial(case, program)

@@ -95,8 +95,8 @@ class Session:
         """The next answer, whole."""
         first = self.line(wait)
         words = first.split()
-        if words[:1] == [b"bytes"] and len(words) == 2:
-            count = int(words[1])
+        if words[:1] in ([b"bytes"], [b"redo"]) and len(words) > 1:
+            count = int(words[-1])
             while len(self.rest) < count:
                 self.more(wait)
             content, self.rest = self.rest[:count], self.rest[count:]

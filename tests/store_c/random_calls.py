@@ -18,12 +18,12 @@ from library import Library, Wrong
 from python_needed import end_where_older
 from script import call_of, pattern
 from scripts import LENGTHS
-from session import answer_of, file, request_of, requests_of
+from session import answer_of, file, request_of, requests_of, text_of
 from sessions import Session, case as session_case
 from store import MAX_LENGTH, MAX_PART, MAX_TENANTS, Refused, Store, Upload, part_fault
 
 MAX_ENTRIES = 1 << 32
-WITHOUT_CALL = ("counts", "objects")
+WITHOUT_CALL = ("counts", "objects", "redo")
 """The words of the lines that no call answers alone."""
 MAX_TEXT = 5000
 """How much is printed of what differs."""
@@ -92,15 +92,10 @@ def calls_of(library, line, taken):
     return getattr(library, call[0])(*call[1]) if call else ["bad"]
 
 
-def joined(lines):
-    """The text of lines; bytes are the content after a line."""
-    return b"".join(line if isinstance(line, bytes) else line.encode() + b"\n" for line in lines)
-
-
 def reported(call, *words):
     """What a call answers, or its refusal."""
     try:
-        return joined(call(*words))
+        return text_of(call(*words))
     except Refused as refused:
         return f"refused {refused}\n".encode()
 

@@ -210,6 +210,7 @@ fn session_lines() -> &'static str {
         "\n                      the tenant's objects with numbers from FROM on, at most COUNT of them",
         "\n  tenants             what each tenant uses",
         "\n  counts              the numbers of entries and tenants, and the store's totals",
+        "\n  redo FROM COUNT     lines that redo on another store what the entries from number FROM on did",
         "\n  entries FROM        the journal's entries from number FROM on; with COUNT, at most COUNT of them",
         "\n\nExample:\n  b3store serve --at /tmp/door --sessions 4"
     )

@@ -8,3 +8,4 @@ pub mod Filing
 pub mod Parts
 pub mod Runs
 pub mod Cuts
+pub mod Redoing

@@ -25,6 +25,7 @@
 
 mod address_map;
 mod command;
+mod journal;
 mod laws;
 mod object;
 mod segments;
@@ -33,7 +34,7 @@ mod store;
 pub use command::{Command, SealReply};
 pub use laws::run_laws;
 pub use object::{Object, SharedObject};
-pub use store::{Counts, Held, Listing, Question, Reply, Sealed, Store};
+pub use store::{Counts, Held, Listing, Question, Redo, Redone, Reply, Sealed, Store};
 pub use store_books::{
     Address, BadLimits, Limits, MAX_ENTRIES, MAX_LIMIT, MAX_TENANTS, ObjectPage, Refusal, TenantId,
     Totals, UploadId, UploadStatus, Usage,

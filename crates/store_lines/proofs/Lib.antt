@@ -18,3 +18,4 @@ mod Reports
 mod Serves
 mod Under
 mod Alone
+mod RedoLengths

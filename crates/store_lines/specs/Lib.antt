@@ -1,6 +1,7 @@
 -- The definitions that a reader has to trust, each file after those it uses; inner has those that only proofs and private functions use.
 pub mod Grammar
 pub mod Texts
+pub mod Redo
 pub mod Questions
 pub mod Script
 pub mod Lines

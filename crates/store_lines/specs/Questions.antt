@@ -3,7 +3,7 @@ use Rattle.std.specs.Prelude.{ℕ, List, [], ◌∷◌, ◌++◌, ◌+◌, Optio
 use Rattle.std.specs.Fmt.{decimal}
 use Rattle.std.specs.List.{flat_map}
 use Rattle.std.specs.Str.{bytes_eq}
-use Rattle.edge.specs.Fields.{◌>>=◌, number_at, three_numbers_at}
+use Rattle.edge.specs.Fields.{◌>>=◌, number_at, three_numbers_at, two_numbers_at}
 use Rattle.hex.specs.Hex.{encode_lower}
 use Rattle.store_books.specs.declared.books.UploadStatus.{UploadStatus}
 use Rattle.store_books.specs.declared.books.Usage.{Usage}
@@ -16,6 +16,7 @@ use Rattle.store_core.specs.declared.store.questions.Question.TheVariants as que
 use Rattle.store_core.specs.declared.store.questions.Reply.{Reply}
 use Rattle.store_core.specs.declared.store.questions.Reply.TheVariants as replies
 use Rattle.store_lines.specs.Grammar.{held_at}
+use Rattle.store_lines.specs.Redo.{redo_text}
 use Rattle.store_lines.specs.Texts.{held_text, numbered, refused_text, sealed_text}
 use Rattle.store_lines.specs.declared.request.Request.{Request}
 use Rattle.store_lines.specs.declared.request.Request.TheVariants.{Asks}
@@ -37,12 +38,18 @@ objects_at fields = do
   numbers ← three_numbers_at fields
   Some (Asks (questions.Objects numbers.0 numbers.1 numbers.2))
 
+abbrev pub redo_at : List ℕ → Option Request
+redo_at fields = do
+  numbers ← two_numbers_at fields
+  Some (Asks (questions.Redo numbers.0 numbers.1))
+
 -- the question of a word and the fields after it
 unfoldable pub question_of_kind : List ℕ → List ℕ → Option Request
 question_of_kind kind fields =
     if bytes_eq kind (codes "has") then holds_at fields
     else if bytes_eq kind (codes "uploads") then uploads_at fields
     else if bytes_eq kind (codes "objects") then objects_at fields
+    else if bytes_eq kind (codes "redo") then redo_at fields
     else None
 
 -- the question of a line that consists of one word
@@ -132,6 +139,7 @@ reply_text (replies.Objects page) = page_text page.next page.objects
 reply_text (replies.Tenants usages) = tenants_text usages
 reply_text (replies.Totals t) = totals_line t
 reply_text (replies.Counts c) = counts_line c
+reply_text (replies.Redo r) = redo_text r
 
 abbrev pub answer_text : Result Reply Refusal → List ℕ
 answer_text (Ok reply) = reply_text reply

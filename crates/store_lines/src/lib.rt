@@ -42,6 +42,7 @@ mod parsing;
 mod questions;
 mod reading;
 mod receiving;
+mod redo;
 mod request;
 mod running;
 mod serving;

@@ -5,14 +5,15 @@ ghost use Rattle.std.specs.Io.KnownBytes.{Appends};
 ghost use Rattle.std.specs.List.{flat_map};
 ghost use Rattle.edge.specs.Output.{WroteSome};
 ghost use Rattle.store_lines.specs.Questions.{answer_text, counts_line, holds_at, list_text, listed_line, object_text, open_upload_line, question_of_kind};
-ghost use Rattle.store_lines.specs.Questions.{question_of_word, reply_text, tenant_line, tenant_lines, tenants_text, totals_line, uploads_at};
+ghost use Rattle.store_lines.specs.Questions.{question_of_word, redo_at, reply_text, tenant_line, tenant_lines, tenants_text, totals_line, uploads_at};
 ghost use Rattle.store_lines.specs.Questions.{objects_at, page_front, page_text, uploads_text, usage_text};
 
 use crate::digits::write_digits;
 use crate::parsing::number_and_address;
+use crate::redo::write_redo;
 use crate::request::Request;
 use crate::texts::{write_held, write_made, write_numbered, write_refusal, write_sealed};
-use edge::{Cause, number, three_numbers};
+use edge::{Cause, number, three_numbers, two_numbers};
 use std::io::Write;
 use store_core::{
     Address, Counts, Object, Question, Refusal, Reply, TenantId, Totals, UploadStatus, Usage,
@@ -45,6 +46,9 @@ pub(crate) fn question_of_kind(kind: &[u8], fields: &[u8]) -> Option<Request>
     if kind == b"objects".as_slice() {
         return objects(fields);
     }
+    if kind == b"redo".as_slice() {
+        return redo(fields);
+    }
     None
 }
 
@@ -73,6 +77,13 @@ fn objects(fields: &[u8]) -> Option<Request>
         from,
         count,
     }))
+}
+
+fn redo(fields: &[u8]) -> Option<Request>
+    ensures { result ≡ redo_at fields.now }
+{
+    let (from, count) = two_numbers(fields)?;
+    Some(Request::Asks(Question::Redo { from, count }))
 }
 
 /// The answer to a step of the store.
@@ -110,6 +121,7 @@ fn write_reply<W: Write>(writer: &mut W, reply: Reply) -> Result<(), Cause>
         Reply::Tenants(usages) => write_tenants(writer, usages.as_slice()),
         Reply::Totals(totals) => write_totals(writer, totals),
         Reply::Counts(counts) => write_counts(writer, counts),
+        Reply::Redo(redo) => write_redo(writer, &redo),
     }
 }
 

@@ -11,7 +11,7 @@ ghost use Rattle.store_core.specs.Commands.{as_is};
 
 use crate::command::SealReply;
 use crate::object::{Object, SharedObject};
-use crate::store::{Held, Store, allow, shared};
+use crate::store::{Held, Redo, Store, allow, shared};
 use b3_forest::Plan;
 use std::marker::Model;
 use std::sync::Arc;
@@ -47,6 +47,10 @@ pub enum Question {
     Tenants,
     Totals,
     Counts,
+    Redo {
+        from: u64,
+        count: u64,
+    },
 }
 
 /// The result of an accepted command or of a question. In contracts a reply is its own model, since each field is.
@@ -66,6 +70,7 @@ pub enum Reply {
     Tenants(Listing<Usage>),
     Totals(Totals),
     Counts(Counts),
+    Redo(Redo),
 }
 
 /// The numbers of entries of the journal and of tenants, and the totals.
@@ -127,6 +132,7 @@ impl Store {
             Question::Tenants => Ok(Reply::Tenants(Listing::new(self.tenants()?))),
             Question::Totals => Ok(Reply::Totals(self.totals())),
             Question::Counts => Ok(Reply::Counts(self.counts())),
+            Question::Redo { from, count } => Ok(Reply::Redo(self.redo(from, count)?)),
         }
     }
 
