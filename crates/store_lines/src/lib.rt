@@ -5,8 +5,8 @@
 //! raw bytes.
 //!
 //! docs/FORMATS.md has the lines of a script, docs/COMMANDS.md those that only a session has, each with its answer. They are read as
-//! `specs/Grammar.antt`, `specs/Requests.antt` and `specs/Questions.antt` define; answers have the texts of `specs/Texts.antt` and
-//! `specs/Questions.antt`. What belongs to a question of a session is in `src/questions.rt` and `specs/Questions.antt`.
+//! `specs/Grammar.antt`, `specs/Requests.antt` and `specs/Questions.antt` define; answers have the texts of `specs/Texts.antt`,
+//! `specs/Questions.antt` and `specs/Redo.antt`. What belongs to a question of a session is in `src/questions.rt` and `specs/Questions.antt`.
 //!
 //! A `put` asks for the upload's plan first (S7), then makes the part (F2 to F6), then puts it; running out of memory while the part is
 //! made is S14.
