@@ -1,7 +1,8 @@
+mod Accepted
 mod Along
 mod Lookups
 mod ObjectsStay
-mod PartsStay
 mod Promises
 mod Slices
 mod Steps
+mod UploadsStay

@@ -43,3 +43,8 @@ last_by false x v found later is rest = rest is
 pub lookup_front : {K X : Type 0} (p : K → Bool) (es more : List (K × X)) (v : X) → lookup p es ≡ Some v → lookup p (es ++ more) ≡ Some v
 lookup_front p [] more v found = absurd (cc)
 lookup_front p (e ∷ es) more v found = front_by (p e.0) e.1 v (lookup p es) (lookup p (es ++ more)) found (λ there. lookup_front p es more v there)
+
+-- and an entry that follows all others, where none of these is found
+pub lookup_last : {K X : Type 0} (p : K → Bool) (es : List (K × X)) (k : K) (v : X) → p k ≡ true → lookup p es ≡ None → lookup p (es ++ (k, v) ∷ []) ≡ Some v
+lookup_last p [] k v is none = ap (λ (c : Bool). cond c (Some v) None) is
+lookup_last p (e ∷ es) k v is none = last_by (p e.0) e.1 v (lookup p es) (lookup p (es ++ (k, v) ∷ [])) none (λ there. lookup_last p es k v is there)

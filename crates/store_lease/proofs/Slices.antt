@@ -1,5 +1,5 @@
 -- A complete upload's content has, at each offset, what the upload holds there.
-use Rattle.std.proofs.Common.{◌≡◌, ℕ, Bool, ◌+◌, ◌-◌, ◌<◌, ◌≤◌, ◌++◌, List, [], ◌∷◌, Option, Some, None, length, take, drop, true, false, arith, cond, refl, ap, subst, sym, ◌∙◌, inl, inr}
+use Rattle.std.proofs.Common.{◌≡◌, ℕ, Bool, ◌+◌, ◌-◌, ◌<◌, ◌≤◌, ◌++◌, List, [], ◌∷◌, Some, length, take, drop, true, false, arith, cond, refl, ap, subst, sym, ◌∙◌, inl, inr}
 use Rattle.std.specs.Map.{lookup}
 use Rattle.std.proofs.Math.Seq.{drop-append-add}
 use Rattle.std.proofs.lemmas.Bool.{eqb-true}
@@ -24,6 +24,15 @@ placed_from n a offset bytes (p ∷ ps) placed found = by (is_number offset p.0)
     by : (x : Bool) → is_number offset p.0 ≡ x → (lookup (is_number offset) ps ≡ Some bytes → end_of length p ≤ offset) → cond x (Some p.1) (lookup (is_number offset) ps) ≡ Some bytes → a ≤ offset
     by true is rest here = let same : offset ≡ p.0 = eqb-true offset p.0 (sym (at_is offset p.0) ∙ is) in omega (arith, same, placed.0)
     by false other rest there = let later = rest there in omega (arith, later, placed.0)
+
+-- and have bytes
+pub placed_some : (n a offset : ℕ) (bytes : List ℕ) (ps : List HeldPart) → ArePlaced length n a ps → lookup (is_number offset) ps ≡ Some bytes → 0 < length bytes
+placed_some n a offset bytes [] placed found = absurd (cc)
+placed_some n a offset bytes (p ∷ ps) placed found = by (is_number offset p.0) (λ there. placed_some n (end_of length p) offset bytes ps placed.2 there) found
+  where
+    by : (x : Bool) → (lookup (is_number offset) ps ≡ Some bytes → 0 < length bytes) → cond x (Some p.1) (lookup (is_number offset) ps) ≡ Some bytes → 0 < length bytes
+    by true rest here = subst (λ (b : List ℕ). 0 < length b) (some_is p.1 bytes here) placed.1.some
+    by false rest there = rest there
 
 pub slice_from : (n a offset : ℕ) (bytes : List ℕ) (ps : List HeldPart) → ArePlaced length n a ps → n ≤ first_gap length a ps → lookup (is_number offset) ps ≡ Some bytes → take (length bytes) (drop (offset - a) (content_of ps)) ≡ bytes
 unfolding content_of

@@ -1,12 +1,16 @@
 //! What a client may rely on.
 
-ghost use Rattle.store_lease.specs.Laws.{SealsWhatWasPut, StaysFiled, StaysPut};
+ghost use Rattle.store_lease.specs.Laws.{BegunIsOpen, EachWasAccepted, SealedIsHeld, SealsWhatWasPut, StaysOpen, StaysPut};
 
-/// What a client put stays where it put it until its upload ends; the address that a seal answers is the hash of what the upload holds; and
-/// what was sealed can be fetched, byte for byte, until a call forgets it for its tenant. The laws are about the calls that a shared store
-/// accepted, of whichever clients; the function does nothing.
+/// An upload stays open, with its tenant, its plan and what it holds, until a call seals or aborts it, from its begin on; so what a client put
+/// stays where it put it. The address that a seal answers is the hash of what the upload holds; and what was sealed can be fetched, byte for
+/// byte, until a call forgets it for its tenant. The laws are about each call that a shared store accepted, of whichever client; the function
+/// does nothing.
 pub fn client_laws()
+    ensures each { EachWasAccepted }
+    ensures begun { BegunIsOpen }
+    ensures stays { StaysOpen }
     ensures put { StaysPut }
     ensures sealed { SealsWhatWasPut }
-    ensures filed { StaysFiled }
+    ensures held { SealedIsHeld }
 {}

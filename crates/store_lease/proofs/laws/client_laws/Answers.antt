@@ -1,5 +1,15 @@
-use Rattle.store_lease.proofs.Promises.{seals_what_was_put, stays_filed, stays_put}
+use Rattle.store_lease.proofs.Accepted.{each_was_accepted}
+use Rattle.store_lease.proofs.Promises.{begun_is_open, sealed_is_held, seals_what_was_put, stays_open, stays_put}
 use Rattle.store_lease.proofs.laws.client_laws.Goals as goal
+
+pub returns-clause-each : goal.returns-clause-each
+returns-clause-each c = each_was_accepted
+
+pub returns-clause-begun : goal.returns-clause-begun
+returns-clause-begun c = begun_is_open
+
+pub returns-clause-stays : goal.returns-clause-stays
+returns-clause-stays c = stays_open
 
 pub returns-clause-put : goal.returns-clause-put
 returns-clause-put c = stays_put
@@ -7,5 +17,5 @@ returns-clause-put c = stays_put
 pub returns-clause-sealed : goal.returns-clause-sealed
 returns-clause-sealed c = seals_what_was_put
 
-pub returns-clause-filed : goal.returns-clause-filed
-returns-clause-filed c = stays_filed
+pub returns-clause-held : goal.returns-clause-held
+returns-clause-held c = sealed_is_held
