@@ -62,13 +62,13 @@ def running(words, **how):
 
 
 @contextlib.contextmanager
-def our_cache(program, place):
+def our_cache(place):
     """examples/cache_server.py. The port."""
-    words = [sys.executable, os.path.join(TOP, "examples", "cache_server.py"), os.path.join(place, "cache"), "--port", "0", "--program", program]
+    words = [sys.executable, os.path.join(TOP, "examples", "cache_server.py"), os.path.join(place, "cache"), "--port", "0"]
     with running(words, stdout=subprocess.PIPE) as server:
         line = server.stdout.readline().decode()
         if "port " not in line:
-            sys.exit(f"{program} doesn't start as a cache")
+            sys.exit("cache_server.py doesn't start")
         yield int(line.split("port ")[1].split(",")[0])
 
 
@@ -76,7 +76,7 @@ def bare(length):
     """Starts bench/bare_server.py. The function to start one."""
 
     @contextlib.contextmanager
-    def start(_, __):
+    def start(_):
         with running([sys.executable, os.path.join(TOP, "bench", "bare_server.py"), str(length)], stdout=subprocess.PIPE) as server:
             yield int(server.stdout.readline())
 
@@ -84,7 +84,7 @@ def bare(length):
 
 
 @contextlib.contextmanager
-def nginx(_, place):
+def nginx(place):
     port = free_port()
     os.makedirs(os.path.join(place, "files"))
     os.chmod(place, 0o777)
@@ -102,7 +102,7 @@ def redis_words(place, *words):
 
 
 @contextlib.contextmanager
-def redis(_, place):
+def redis(place):
     port = free_port()
     with running(redis_words(place, "--port", str(port), "--bind", "127.0.0.1"), stdout=subprocess.DEVNULL):
         wait_for(port)

@@ -39,8 +39,8 @@ the oldest objects. Besides these bytes, it and this program take about 300 byte
 grows, 700 for each piece in the repository, 600 for each object that is held, 1.5 KB for each path in the backup, and tens of megabytes for pieces that wait to
 be written.
 
-The status is 0 if all was saved, restored or correct; 1 if something was not, which is reported, or if it is out of memory; 2 for a usage error; 3 if the
-store has ended; 130 after Ctrl-C.
+The status is 0 if all was saved, restored or correct; 1 if something was not, which is reported, or if it is out of memory or can't find the library
+libb3store; 2 for a usage error; 130 after Ctrl-C.
 """
 import os
 import sys
@@ -62,7 +62,7 @@ import stat
 import struct
 import time
 
-from b3store import MAX_LIMIT, Ended, Refused, Store
+from b3store import MAX_LIMIT, Refused, Store
 from b3store.console import drop_output, error_text, fault_text, one_line, open_standard_files, show, written
 from backup_check import check
 from backup_packs import WriteFailed
@@ -95,7 +95,7 @@ example:
   backups 1 broken 0
   $ backup.py restore /mnt/disk/repository 6437b3ac38465133ffb63b75273a8db548c558465d79db03fd359c6cd5bd9d85 ~/restored
 
-exit status: 0 all was saved, restored or correct; 1 something was not; 2 usage error; 3 the store has ended
+exit status: 0 all was saved, restored or correct; 1 something was not; 2 usage error
 """
 
 
@@ -475,7 +475,6 @@ def read_options():
     parser = argparse.ArgumentParser(
         description="Back up a folder into a repository, and restore it.", epilog=EXAMPLE, formatter_class=argparse.RawDescriptionHelpFormatter
     )
-    parser.add_argument("--program", default="b3store", metavar="PATH", help="run this b3store program (default: b3store)")
     parser.add_argument("--memory", type=a_memory, default=1 << 28, metavar="BYTES", help="let the store hold up to BYTES, 8 MiB or more (default: 256 MiB)")
     commands = parser.add_subparsers(required=True, metavar="COMMAND")
     for name, work, purpose, words in COMMANDS:
@@ -490,7 +489,7 @@ def read_options():
 
 
 def run(options):
-    with Store(options.program, sessions=1) as store:
+    with Store() as store:
         repository = Repository(options.repository, store, options.memory)
         return 0 if options.work(repository, options) else 1
 
@@ -509,8 +508,6 @@ def main():
         status, text = 1, fault_text(fault)
     except MemoryError:
         status, text = 1, "out of memory"
-    except Ended as fault:
-        status, text = 3, str(fault)
     except KeyboardInterrupt:
         status, text = 128 + signal.SIGINT, "interrupted"
     finally:

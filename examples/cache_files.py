@@ -24,7 +24,7 @@ import shutil
 import threading
 import time
 
-from b3store import Ended, Refused
+from b3store import Refused
 from b3store.console import count_text, error_text
 from b3store.files import checked_line, checked_text, lock_folder, private, replace_file
 from cache_http import NO_FILES
@@ -376,14 +376,10 @@ class Files:
                 raise OSError(f"{name} was removed or replaced")
 
     def texts_of(self, cache, user, key, entry, content):
-        """The lines of a key that has changed. If a store has ended with its content, there are none. If no store holds its content any more and it isn't on
-        disk, a later change has undone this one."""
+        """The lines of a key that has changed. If no store holds its content any more and it isn't on disk, a later change has undone this one."""
         texts = []
         if entry is not None and (entry.address not in self.places or entry.address in self.unread or entry.address in self.unchecked):
-            try:
-                line = self.append_held(cache, user, entry.address, content)
-            except Ended:
-                return []
+            line = self.append_held(cache, user, entry.address, content)
             if line is None:
                 entry = None
             else:
@@ -398,22 +394,18 @@ class Files:
 
     def append_held(self, cache, user, address, content):
         """Appends an object that a store holds for a user, and returns its line; None if no store holds it. An object may move while it is read:
-        then it is read from where it is now. Raises Ended if the store that holds it has ended."""
+        then it is read from where it is now."""
         if content is not None:
             return self.append(address, lambda: self.write_pieces([content]))
-        tried = fault = None
+        tried = None
         while True:
             backend = cache.find(user, address)
             if backend is None or backend is tried:
-                break
+                return None
             tried = backend
-            try:
+            # ValueError: the store was closed
+            with contextlib.suppress(Refused, ValueError):
                 return self.append(address, lambda: backend.store.fetch_to(backend.tenants[user], address, self.last.fileno()))
-            except (Refused, Ended) as error:
-                fault = error
-        if backend is not None and isinstance(fault, Ended):
-            raise fault
-        return None
 
     def write_pieces(self, pieces):
         """Writes some bytes to the last segment."""

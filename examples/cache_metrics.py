@@ -19,6 +19,7 @@ GAUGES = {
     "objects": "Objects that the store holds. During a move an object may be held twice.",
     "held_bytes": "Bytes of these objects.",
     "journal_entries": "Entries in the journal of the store that content is put into.",
+    "stores": "Stores that hold content: 2 during a move.",
 }
 
 
@@ -44,7 +45,7 @@ class Metrics:
         objects, held = cache.totals()
         values = {
             "evictions": cache.evictions, "moves": cache.moves, "keys": sum(len(user.keys) for user in cache.users), "objects": objects, "held_bytes": held,
-            "journal_entries": cache.count_entries(),
+            "journal_entries": cache.count_entries(), "stores": len(cache.backends()),
         }
         with self.lock:
             requests = sorted(self.requests.items())

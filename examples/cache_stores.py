@@ -20,7 +20,7 @@ import sys
 import threading
 import time
 
-from b3store import MAX_LIMIT, RANGE_LEN, Ended, Refused
+from b3store import MAX_LIMIT, RANGE_LEN, Refused
 from b3store.console import fault_text, one_line
 
 PART = 1 << 20
@@ -51,6 +51,10 @@ class Declined(Exception):
     def __init__(self, status):
         super().__init__(status)
         self.status = status
+
+
+class Stopping(Exception):
+    """The server ends, and no key changes any more."""
 
 
 def always(_):
@@ -268,7 +272,7 @@ class Cache:
     def lead(self, user, key, entry, content=None):
         """Lets a key lead to an object that the user holds, whose content may be given, or nowhere."""
         if self.is_closed:
-            raise Ended("the server stops")
+            raise Stopping
         if self.files is not None:
             self.files.note(user, key, entry, content)
         old = user.keys.pop(key, None)
@@ -348,7 +352,7 @@ class Cache:
             yield entry
         finally:
             if entry is not None:
-                with self.lock, contextlib.suppress(Ended):
+                with self.lock:
                     self.leave(user, entry)
 
     def pieces(self, user, entry, start, end, range_len=RANGE_LEN):
@@ -378,19 +382,13 @@ class Cache:
     def backends(self):
         return [backend for backend in (self.backend, self.old) if backend is not None]
 
-    def check(self):
-        """Raises Ended if a store has ended. One that a move has closed is no longer among them."""
-        for backend in self.backends():
-            if not backend.store.alive and backend in self.backends():
-                backend.store.stat()
-
     def count_entries(self):
         """The number of entries in the journal of the store that content is put into."""
         while True:
             backend = self.backend
             try:
                 return backend.count_entries()
-            except Ended:
+            except ValueError:
                 # a move may have closed it meanwhile
                 if backend in self.backends():
                     raise
@@ -401,10 +399,6 @@ class Cache:
             self.is_closed = True
         if self.mover is not None:
             self.mover.join()
-
-    def close_stores(self):
-        for backend in self.backends():
-            backend.store.close()
 
     def totals(self):
         """The objects that the stores hold, and their bytes."""
@@ -423,13 +417,14 @@ class Cache:
             self.mover = mover
 
     def try_to_move(self):
-        """Moves all content to a new store. If a store has ended, the server notices that itself; if no new store can be started, the journal keeps growing."""
+        """Moves all content to a new store. If no new store can be opened, the journal keeps growing."""
         try:
             self.move()
-        except (OSError, Refused, Ended) as fault:
-            if self.old is None:
-                self.next_limit = 2 * self.backend.entries
-                report(one_line(f"cannot start a second store, so the journal grows: {fault_text(fault)}"))
+        except Stopping:
+            """The move isn't needed any more."""
+        except (OSError, Refused) as fault:
+            self.next_limit = 2 * self.backend.entries
+            report(one_line(f"cannot open a second store, so the journal grows: {fault_text(fault)}"))
 
     def move(self):
         has_reported = False
@@ -512,7 +507,7 @@ class Cache:
             for at, piece in enumerate(self.pieces(user, entry, 0, entry.length, PART)):
                 store.put(number, at * PART, piece)
                 if self.is_closed:
-                    raise Ended("the server stops")
+                    raise Stopping
             with self.lock:
                 store.seal_as(number, entry.address)
                 number = None
@@ -585,7 +580,7 @@ class Fixed:
     def abort(self):
         if self.number is None:
             return
-        with self.cache.lock, contextlib.suppress(Refused, Ended):
+        with self.cache.lock, contextlib.suppress(Refused):
             try:
                 self.backend.abort(self.number)
             finally:
@@ -655,17 +650,17 @@ class Growing(Fixed):
             for piece in self.cache.pieces(drafts, entry, 0, entry.length):
                 super().put(piece)
         finally:
-            with self.cache.lock, contextlib.suppress(Ended):
+            with self.cache.lock:
                 self.cache.leave(drafts, entry, shares=False)
 
     def abort(self):
         super().abort()
         with self.cache.lock:
-            with contextlib.suppress(Refused, Ended):
+            with contextlib.suppress(Refused):
                 self.release()
             if self.draft is not None:
                 self.source.uploads -= 1
-                with contextlib.suppress(Refused, Ended):
+                with contextlib.suppress(Refused):
                     self.source.abort(self.draft)
 
 

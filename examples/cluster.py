@@ -1,7 +1,7 @@
 #!/usr/bin/env python3
 """Several cache servers with nginx in front of them, on loopback addresses. nginx distributes the keys by their hash.
 
-    cluster.py FOLDER [--servers N] [--port N] [--program PATH]
+    cluster.py FOLDER [--servers N] [--port N]
 
 Server K keeps its content in FOLDER/K. If a server ends, nginx asks others for its keys, which are misses until they are stored again; other keys stay where
 they are. At the next start it answers for its keys again, with the content that it had, so use keys that name their content, as caches of compilers do. The
@@ -73,8 +73,8 @@ http {{
 class Server:
     """A cache server in its own process."""
 
-    def __init__(self, folder, program):
-        words = [sys.executable, os.path.join(os.path.dirname(os.path.realpath(__file__)), "cache_server.py"), folder, "--port", "0", "--program", program]
+    def __init__(self, folder):
+        words = [sys.executable, os.path.join(os.path.dirname(os.path.realpath(__file__)), "cache_server.py"), folder, "--port", "0"]
         # in its own session, so that an interrupt at a terminal reaches the cluster alone
         self.process, self.port = subprocess.Popen(words, stdout=subprocess.PIPE, start_new_session=True), None
 
@@ -99,7 +99,6 @@ def read_options():
     parser.add_argument("folder", metavar="FOLDER", help="keep the content of server K in FOLDER/K")
     parser.add_argument("--servers", type=number(1, 64), default=4, metavar="N", help="run N cache servers (default: 4)")
     parser.add_argument("--port", type=number(1, 65535), default=8080, metavar="N", help="let nginx listen on this port (default: 8080)")
-    parser.add_argument("--program", default="b3store", metavar="PATH", help="run this b3store program (default: b3store)")
     return parser.parse_args()
 
 
@@ -108,7 +107,7 @@ def start_all(options, processes, stopping):
     folder, servers = os.path.abspath(options.folder), []
     os.makedirs(folder, exist_ok=True)
     for at in range(options.servers):
-        servers.append(Server(os.path.join(folder, str(at)), options.program))
+        servers.append(Server(os.path.join(folder, str(at))))
         processes.append(servers[-1].process)
     if not all(server.wait(stopping) for server in servers):
         return

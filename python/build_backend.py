@@ -16,13 +16,13 @@ METADATA = f"""\
 Metadata-Version: 2.1
 Name: {NAME}
 Version: {VERSION}
-Summary: A content-addressed store in memory, from Python: processes, clients of a server, BLAKE3
+Summary: A content-addressed store in memory, from Python: in the process, clients of a server, BLAKE3
 Requires-Python: >=3.8
 Classifier: Operating System :: POSIX :: Linux
 Classifier: Programming Language :: Python :: 3
 Classifier: Typing :: Typed
 """
-WHEEL = f"Wheel-Version: 1.0\nGenerator: {NAME}\nRoot-Is-Purelib: true\nTag: py3-none-any\n"
+WHEEL = f"Wheel-Version: 1.0\nGenerator: {NAME}\nRoot-Is-Purelib: {{}}\nTag: {{}}\n"
 ENTRY_POINTS = "[console_scripts]\nb3store-client = b3store.programs:client\nb3store-server = b3store.programs:server\n"
 TIME = (1980, 1, 1, 0, 0, 0)
 """The time of every file, so that a wheel depends only on what is in it."""
@@ -31,8 +31,12 @@ Settings = Optional[Dict[str, Any]]
 
 
 def build_wheel(wheel_directory: str, config_settings: Settings = None, metadata_directory: Optional[str] = None) -> str:
-    """Writes the wheel into a folder, and returns its name."""
-    return write_wheel(wheel_directory, {path: read(path) for path in package_files()})
+    """Writes the wheel into a folder, and returns its name. The wheel has the library libb3store, if that is where the package looks for it."""
+    from b3store.library import FILE, paths
+
+    files = {path: read(path) for path in package_files()}
+    found = [path for path in paths() if os.path.isabs(path) and os.path.exists(path)]
+    return write_wheel(wheel_directory, {**files, f"{NAME}/{FILE}": read(found[0])} if found else files, "linux_x86_64" if found else "any")
 
 
 def build_editable(wheel_directory: str, config_settings: Settings = None, metadata_directory: Optional[str] = None) -> str:
@@ -64,12 +68,13 @@ def read(path: str) -> bytes:
         return file.read()
 
 
-def write_wheel(folder: str, files: Dict[str, bytes]) -> str:
+def write_wheel(folder: str, files: Dict[str, bytes], platform: str = "any") -> str:
     """Writes a wheel of files, and returns its name."""
-    texts = {"METADATA": METADATA, "WHEEL": WHEEL, "entry_points.txt": ENTRY_POINTS}
+    tag = f"py3-none-{platform}"
+    texts = {"METADATA": METADATA, "WHEEL": WHEEL.format(str(platform == "any").lower(), tag), "entry_points.txt": ENTRY_POINTS}
     files = {**files, **{f"{INFO}/{name}": text.encode() for name, text in texts.items()}}
     record = "".join(f"{path},sha256={digest_of(content)},{len(content)}\n" for path, content in files.items()) + f"{INFO}/RECORD,,\n"
-    name = f"{NAME}-{VERSION}-py3-none-any.whl"
+    name = f"{NAME}-{VERSION}-{tag}.whl"
     with zipfile.ZipFile(os.path.join(folder, name), "w", zipfile.ZIP_DEFLATED) as wheel:
         for path, content in [*files.items(), (f"{INFO}/RECORD", record.encode())]:
             entry = zipfile.ZipInfo(path, TIME)

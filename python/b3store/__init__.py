@@ -1,12 +1,12 @@
 """b3store: a content-addressed store in memory, from Python.
 
-`Store` starts a store in its own process, `Client` connects to a server that many processes share, and both have the same methods;
-`AsyncStore` is a layer for asyncio. `b3store.hashing` computes BLAKE3 with the library libb3, `python -m b3store` is the command line, and
-`python -m b3store.server` is the server.
+`Store` is a store in this process, `Client` connects to a server that many processes share, and both have the same methods; `AsyncStore` is a
+layer for asyncio. `b3store.hashing` computes BLAKE3. It and `Store` use the library libb3store. `python -m b3store` is the command line,
+and `python -m b3store.server` is the server.
 
     from b3store import Store
 
-    with Store("b3store") as store:
+    with Store() as store:
         tenant = store.tenant(1 << 30)
         filed = store.upload(open("file", "rb"), tenant)
         print(filed.address, store.fetch(tenant, filed.address, 0, 10))

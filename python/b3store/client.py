@@ -3,10 +3,9 @@ import contextlib
 import os
 import re
 import socket
-from types import TracebackType
-from typing import Any, List, Optional, Type, Union
+from typing import Any, List, Optional, Union
 
-from .sessions import READ_LEN, Session, prepare_tcp
+from .sessions import READ_LEN, Session, Sessions, prepare_tcp
 from .transfers import Transfers
 from .values import MAX_SESSIONS, Ended, Refused, check_number
 
@@ -16,7 +15,7 @@ SECONDS_TO_CONNECT = 10
 """How long a TCP connection and its token's answer may take."""
 
 
-class Client(Transfers):
+class Client(Sessions, Transfers):
     """A store that a server shares with many processes.
 
         with Client("/run/b3store/socket") as store:
@@ -46,12 +45,6 @@ class Client(Transfers):
                 session.close()
             raise
         self._add(opened)
-
-    def __enter__(self) -> "Client":
-        return self
-
-    def __exit__(self, kind: Optional[Type[BaseException]], fault: Optional[BaseException], trace: Optional[TracebackType]) -> None:
-        self.close()
 
     @property
     def alive(self) -> bool:
@@ -94,7 +87,7 @@ class Client(Transfers):
         except (Refused, ValueError) as fault:
             raise Ended(f"{self._name} does not answer the token as a server does: {fault}") from None
         except Ended as fault:
-            if "closed" in fault.reason:
+            if "closed" in str(fault):
                 raise Ended(f"{self._name} closes the connection: is the token right?") from None
             raise
 
@@ -104,7 +97,7 @@ class Client(Transfers):
             with contextlib.suppress(OSError):
                 connection.shutdown(socket.SHUT_RDWR)
 
-    def _ended(self, reason: str = "", seconds: float = 0) -> Ended:
+    def _ended(self, reason: str = "") -> Ended:
         return Ended(reason or f"{self._name} has closed the connection")
 
 

@@ -1,8 +1,9 @@
-"""The commands of a store, over its sessions."""
+"""The commands of a store, as lines: of a server (client.py), or of the library (store.py)."""
 import contextlib
-from typing import Callable, Dict, Iterable, Iterator, List, Optional, Sequence, Tuple, TypeVar
+from types import TracebackType
+from typing import Callable, Dict, Iterable, Iterator, List, Optional, Sequence, Tuple, Type, TypeVar
 
-from .sessions import MAX_FILED_AHEAD, Kinds, Session, Sessions, not_blocking, write_all, write_slowly
+from .sessions import MAX_AHEAD_LINES, Kinds, Session, not_blocking, write_all, write_slowly
 from .values import (
     MAX_UPLOAD_LEN, PART_LEN, RANGE_LEN, Buffer, Counts, Filed, Held, ObjectRow, OpenUpload, Refused, Totals, Usage, check_address, check_bytes, check_number,
     check_room, check_seconds, half_of_memory, parse_asked, parse_count, parse_digits, parse_held, parse_labelled, parse_length, parse_number, parse_object,
@@ -11,20 +12,33 @@ from .values import (
 
 Key = TypeVar("Key")
 Value = TypeVar("Value")
+Self = TypeVar("Self", bound="Commands")
 
 MAX_DESCRIPTOR = (1 << 31) - 1
 """The maximum number of a descriptor: those of the system are signed."""
 
 
-class Commands(Sessions):
+class Commands:
     """A method for each command. Arguments are checked before anything is sent: TypeError for a wrong type, ValueError for a value that no command
-    takes. Every method can raise Refused, for a command that changed nothing, and Ended; docstrings list the refusals, which `REFUSALS` explains. S13,
-    a full journal, can happen to every command that changes something, and S14, out of memory, to every command."""
+    takes. Every method can raise Refused, for a command that changed nothing, and of a client Ended; docstrings list the refusals, which `REFUSALS` explains.
+    S13, a full journal, can happen to every command that changes something, and S14, out of memory, to every command."""
 
-    def __init__(self) -> None:
-        super().__init__()
-        self._next_upload: Optional[int] = None
-        """The number of the next upload, if no other client can begin one."""
+    def _in_turn(self, work: Callable[[Session], Value]) -> Value:
+        """What a function returns for a session, which nothing else uses meanwhile."""
+        raise NotImplementedError
+
+    def _note(self, fault: BaseException) -> None:
+        """Notes that an answer makes no sense."""
+
+    def close(self) -> None:
+        """Ends the use of the store."""
+        raise NotImplementedError
+
+    def __enter__(self: Self) -> Self:
+        return self
+
+    def __exit__(self, kind: Optional[Type[BaseException]], fault: Optional[BaseException], trace: Optional[TracebackType]) -> None:
+        self.close()
 
     def tenant(self, limit: Optional[int] = None) -> int:
         """Opens a tenant, which may hold up to `limit` bytes, by default half of this machine's memory, and returns its number. It can't be closed, and a store
@@ -37,11 +51,11 @@ class Commands(Sessions):
 
     def begin(self, tenant: int, length: int) -> int:
         """Begins an upload of `length` bytes, and returns its number. Refusals: S1, S5, S6."""
-        return self._begin(f"begin {check_number('tenant', tenant)} {check_number('length', length)}")
+        return self._begin("begin", check_number("tenant", tenant), check_number("length", length))
 
     def begin_open(self, tenant: int, max_len: int) -> int:
         """Begins an upload of up to `max_len` bytes, whose end is fixed later, and returns its number. Refusals: S1, S5, S6."""
-        return self._begin(f"open {check_number('tenant', tenant)} {check_number('max_len', max_len)}")
+        return self._begin("open", check_number("tenant", tenant), check_number("max_len", max_len))
 
     def fix(self, upload: int, length: int) -> None:
         """Fixes an upload's end. Refusals: S7, S5, S15."""
@@ -71,24 +85,17 @@ class Commands(Sessions):
         self._do(f"abort {check_number('upload', upload)}")
 
     def file(self, tenant: int, content: Buffer, address: Optional[str] = None) -> Filed:
-        """Files content of up to MAX_PART_LEN bytes in one turn; `upload` has no maximum. If an address is given, content with another address is refused.
+        """Files content in one turn; of long content, `upload` lets others have turns. If an address is given, content with another address is refused.
         Refusals: those of `begin`, `put` and `seal_as`; after a refusal the upload is aborted."""
         view, address = check_bytes(content), None if address is None else check_address(address)
         tenant = check_number("tenant", tenant)
-        if self._next_upload is None:
-            line = f"file {tenant} {view.nbytes}" if address is None else f"fileas {tenant} {address} {view.nbytes}"
-            return self._talk(lambda session, words: parse_asked(words, address, view.nbytes), ("new", "known"), line, view)
-        return self._in_turn(lambda session: self._file_ahead(session, f"begin {tenant} {view.nbytes}", view, address))
+        line = f"file {tenant} {view.nbytes}" if address is None else f"fileas {tenant} {address} {view.nbytes}"
+        return self._talk(lambda session, words: parse_asked(words, address, view.nbytes), ("new", "known"), line, view)
 
     def file_all(self, tenant: int, contents: Sequence[Buffer]) -> List[Filed]:
-        """Files several contents, each as `file` does. A `Store` with one session takes one turn for many of them, so for small ones this is several times
-        as fast. If one is refused, those before it are filed, and some of those after it may be."""
+        """Files several contents, each as `file` does. If one is refused, those before it are filed."""
         tenant, views = check_number("tenant", tenant), [check_bytes(content) for content in contents]
-        if self._next_upload is None:
-            return [self.file(tenant, view) for view in views]
-        begin = f"begin {tenant}"
-        batches = [views[start : start + MAX_FILED_AHEAD] for start in range(0, len(views), MAX_FILED_AHEAD)]
-        return self._in_turn(lambda session: [filed for batch in batches for filed in self._file_all_ahead(session, begin, batch)])
+        return [self.file(tenant, view) for view in views]
 
     def forget_all(self, tenant: int, addresses: Sequence[str]) -> None:
         """Stops holding several objects for a tenant, each as `forget` does, but in few turns. If one is refused, the others are still forgotten."""
@@ -97,8 +104,8 @@ class Commands(Sessions):
         refusals: List[Refused] = []
 
         def forget(session: Session) -> None:
-            for start in range(0, len(lines), MAX_FILED_AHEAD):
-                batch = lines[start : start + MAX_FILED_AHEAD]
+            for start in range(0, len(lines), MAX_AHEAD_LINES):
+                batch = lines[start : start + MAX_AHEAD_LINES]
                 session.write("".join(batch).encode())
                 refusals.extend(session.answers(["ok"] * len(batch))[1])
 
@@ -153,8 +160,7 @@ class Commands(Sessions):
             other, first = not_blocking(target, ending), offset
             while True:
                 wanted = min(PART_LEN, length)
-                line = fetch_line(tenant, address, offset, wanted)
-                count, rest, fault = self._in_turn(lambda session: session.move(line, wanted, other))
+                count, rest, fault = self._move(tenant, address, offset, wanted, other)
                 if fault is not None:
                     raise fault
                 if other is None:
@@ -164,6 +170,11 @@ class Commands(Sessions):
                 offset, length = offset + count, length - count
                 if count < wanted or length == 0:
                     return offset - first
+
+    def _move(self, tenant: int, address: str, offset: int, length: int, target: Optional[int]) -> Tuple[int, bytes, Optional[OSError]]:
+        """Moves bytes of an object to a descriptor that doesn't block. Returns what `Session.move` does."""
+        line = fetch_line(tenant, address, offset, length)
+        return self._in_turn(lambda session: session.move(line, length, target))
 
     def ranges(self, tenant: int, address: str, length: int = RANGE_LEN) -> Iterator[bytes]:
         """Yields an object's bytes in ranges of `length`. Other commands can run between two of them. Refusals: S1, S12."""
@@ -233,63 +244,13 @@ class Commands(Sessions):
                 return
             start += page_len
 
-    def _put_ahead(self, upload: int, offset: int, parts: List[memoryview]) -> Held:
+    def _put_all(self, upload: int, offset: int, parts: List[memoryview]) -> None:
         """Puts parts one after another in one turn, and sends ahead of the answers."""
-        return self._in_turn(lambda session: parse_held(session.put_ahead(upload, offset, parts)))
+        self._in_turn(lambda session: parse_held(session.put_ahead(upload, offset, parts)))
 
-    def _begin(self, line: str) -> int:
-        def read(words: List[str]) -> int:
-            number = parse_number(words)
-            if self._next_upload is not None:
-                self._next_upload = number + 1
-            return number
-
-        return self._ask(read, "upload", line)
-
-    def _file_ahead(self, session: Session, begin: str, content: memoryview, address: Optional[str]) -> Filed:
-        """Files content by three commands that are sent together, since the upload's number is known before."""
-        number = self._next_upload or 0
-        put, seal = put_and_seal(number, content, address)
-        session.write(f"{begin}\n".encode() + put, content, seal)
-        kinds: List[Kinds] = ["upload", *["held"] * bool(content.nbytes), ("new", "known")]
-        answers, refusals = session.answers(kinds)
-        check_begun(answers, number)
-        self._next_upload = number + bool(answers)
-        if refusals and answers:
-            session.ask("ok", f"abort {number}")
-        if refusals:
-            raise refusals[0]
-        return parse_asked(answers[-1], address, content.nbytes)
-
-    def _file_all_ahead(self, session: Session, begin: str, contents: List[memoryview]) -> List[Filed]:
-        """Files contents by commands that are all sent before an answer is read. Once a `begin` is refused, all uploads after it have other numbers than
-        expected, so what is sent for them is refused too."""
-        number = self._next_upload or 0
-        lines: List[Buffer] = []
-        for at, content in enumerate(contents, number):
-            put, seal = put_and_seal(at, content, None)
-            lines += f"{begin} {content.nbytes}\n".encode() + put, content, seal
-        session.write(*lines)
-        filed: List[Filed] = []
-        unfiled: List[int] = []
-        refusals: List[Refused] = []
-        begun = 0
-        for content in contents:
-            kinds: List[Kinds] = ["upload", *["held"] * bool(content.nbytes), ("new", "known")]
-            answers, refused = session.answers(kinds)
-            check_begun(answers, number + begun)
-            if not refused:
-                filed.append(parse_asked(answers[-1], None, content.nbytes))
-            elif answers:
-                unfiled.append(number + begun)
-            begun += bool(answers)
-            refusals += refused
-        self._next_upload = number + begun
-        for upload in unfiled:
-            session.ask("ok", f"abort {upload}")
-        if refusals:
-            raise refusals[0]
-        return filed
+    def _begin(self, word: str, tenant: int, length: int) -> int:
+        """Begins an upload, and returns its number."""
+        return self._ask(parse_number, "upload", f"{word} {tenant} {length}")
 
     def _do(self, line: str) -> None:
         """Sends a command that is answered `ok`."""
@@ -329,14 +290,3 @@ def fetch_line(tenant: int, address: str, offset: int, length: int) -> str:
     return f"fetchb {check_number('tenant', tenant)} {check_address(address)} {check_number('offset', offset)} {check_number('length', length)}"
 
 
-def put_and_seal(upload: int, content: memoryview, address: Optional[str]) -> Tuple[bytes, bytes]:
-    """The command before an upload's content, if it has any, and the one after it."""
-    put = f"putb {upload} 0 {content.nbytes}\n" if content.nbytes else ""
-    seal = f"seal {upload}\n" if address is None else f"sealas {upload} {address}\n"
-    return put.encode(), seal.encode()
-
-
-def check_begun(answers: List[List[str]], expected: int) -> None:
-    """Checks the number of an upload in the first answer, unless all are refusals. Raises ValueError."""
-    if answers and parse_number(answers[0]) != expected:
-        raise ValueError(f"upload {answers[0][0]} instead of {expected}")

@@ -1,11 +1,11 @@
-"""BLAKE3 with the library libb3, and with the interface of hashlib's objects.
+"""BLAKE3 with the library libb3store, and with the interface of hashlib's objects.
 
     >>> from b3store.hashing import blake3
     >>> blake3(b"abc").hexdigest()
     '6437b3ac38465133ffb63b75273a8db548c558465d79db03fd359c6cd5bd9d85'
 
-`python -m b3store.hashing [--threads N] [FILE ..]` prints a line for each file, as b3sum does. `./install --library` installs the library; the
-environment variable B3_LIBRARY names one elsewhere. Without it, importing this module raises ImportError. Hashing more than 4 KiB lets other threads run.
+`python -m b3store.hashing [--threads N] [FILE ..]` prints a line for each file, as b3sum does. `./install` installs the library; the environment variable
+B3STORE_LIBRARY names another one, which may be libb3. Without one, importing this module raises ImportError. Hashing more than 4 KiB lets other threads run.
 """
 from .programs import end_at_once
 
@@ -22,6 +22,7 @@ import sys
 from typing import Any, BinaryIO, Callable, List, Optional, Union
 
 from .console import FAILED, check_line, error_text, finish, report
+from .library import SIZE, U64, address_of, load
 from .transfers import read_full
 from .values import CHUNK_LEN, Buffer, check_bytes, check_number
 
@@ -38,7 +39,7 @@ example:
   $ printf abc | python -m b3store.hashing
   6437b3ac38465133ffb63b75273a8db548c558465d79db03fd359c6cd5bd9d85  -
 
-exit status: 0 done; 1 a file can't be read; 2 usage error; 3 writing failed, or there is no libb3
+exit status: 0 done; 1 a file can't be read; 2 usage error; 3 writing failed, or there is no libb3store
 """
 FAULTS = {1: "the output has the wrong length", 2: "the key has the wrong length", 3: "the bytes are past the output's end", 4: "no subtree", 5: "no hasher"}
 
@@ -64,28 +65,16 @@ FUNCTIONS = (
 """The functions of the library that this module calls."""
 
 
-def load(kind: Callable[[str], Any]) -> Any:
-    """Loads the library. If there is none, the program ends with a message, and an import raises ImportError."""
-    name = os.environ.get("B3_LIBRARY", "libb3.so.1")
-    try:
-        found = kind(name)
-        for function in FUNCTIONS:
-            getattr(found, function)
-        return found
-    except (AttributeError, OSError) as fault:
-        text = f"{fault}: install libb3 by `./install --library`, or set B3_LIBRARY to the path of libb3.so.1"
-    if __name__ == "__main__":
-        report(text)
-        sys.exit(FAILED)
-    raise ImportError(text)
-
-
 if __name__ == "__main__":
     read_words()  # `--help` needs no library
 
-library = load(ctypes.CDLL)
-small_library = load(ctypes.PyDLL)
-"""The same, whose calls keep the interpreter's lock."""
+try:
+    library, small_library = load(FUNCTIONS)
+except OSError as fault:
+    if __name__ != "__main__":
+        raise ImportError(str(fault)) from None
+    report(str(fault))
+    sys.exit(FAILED)
 
 
 class Value(ctypes.Structure):
@@ -111,26 +100,17 @@ library.b3_root.argtypes = [*SLICE, Value, Value, *SLICE, COUNT]
 small_hash: Any = small_library.b3_hash
 small_hashes: Any = {KEYED_HASH: small_library.b3_keyed_hash, DERIVE_KEY: small_library.b3_derive_key}
 """They have no argtypes: their arguments are made ready here, which takes less than half the time."""
-SIZE = ctypes.c_size_t
 OUTPUT_SIZE = SIZE(HASH_LEN)
-SMALL_COUNT = ctypes.byref(ctypes.c_uint64())
+SMALL_COUNT = ctypes.byref(U64())
 """All calls that keep the interpreter's lock can share it."""
 
 
 class Bytes:
-    """Bytes at an address, for as long as this object exists. Writable buffers and objects of type bytes are not copied."""
+    """Bytes at an address, for as long as this object exists."""
 
     def __init__(self, data: Buffer) -> None:
-        view = check_bytes(data)
-        self.length = view.nbytes
-        self.kept: Any
-        if isinstance(data, bytes):
-            self.kept = data
-            self.address = ctypes.cast(ctypes.c_char_p(data), ctypes.c_void_p).value or 0
-        else:
-            array = ctypes.c_char * self.length
-            self.kept = array.from_buffer_copy(view) if view.readonly else array.from_buffer(view)
-            self.address = ctypes.addressof(self.kept)
+        self.kept = check_bytes(data)
+        self.length, self.address = self.kept.nbytes, address_of(self.kept)
 
     def part(self, start: int, end: int) -> List[int]:
         """The address and the length of a part."""
@@ -143,7 +123,7 @@ class Bytes:
 
 def call(function: Any, *words: Any) -> None:
     """Calls a function of the library with its own count. Raises ValueError if it reports a fault."""
-    answer = function(*words, ctypes.c_uint64(0))
+    answer = function(*words, U64())
     if answer:
         raise ValueError(FAULTS[answer])
 

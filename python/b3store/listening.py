@@ -10,6 +10,7 @@ from typing import Callable, Iterator, List, Optional, Tuple
 
 from .files import FolderInUse, lock_folder
 from .sessions import prepare_tcp
+from .values import StoreError
 
 FIRST_PASSED = 3
 """The first descriptor that systemd passes."""
@@ -25,7 +26,7 @@ MICROSECONDS_MORE = 60_000_000
 SECONDS_BETWEEN_ASKS = 5.0
 
 
-class ListenError(Exception):
+class ListenError(StoreError):
     """A socket can't be listened on."""
 
 

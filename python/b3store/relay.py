@@ -13,7 +13,7 @@ from typing import Any, Callable, Set
 
 from .answers import Answers
 from .programs import signals_held
-from .server_store import Pipes, Store, status_text
+from .server_store import Pipes, StoreProcess, status_text
 from .sessions import splice, write_all
 
 AT_A_TIME = 1 << 20
@@ -242,7 +242,7 @@ class Relays:
 class Uploads:
     """The uploads that a connection began, without those that were found to be no longer open."""
 
-    def __init__(self, store: Store) -> None:
+    def __init__(self, store: StoreProcess) -> None:
         self._store = store
         self._begun: Set[int] = set()
         self._max_begun = MAX_BEGUN
@@ -274,7 +274,7 @@ class Uploads:
             report(failure)
 
 
-def serve_connection(store: Store, relays: Relays, connection: socket.socket, keeps_uploads: bool, report: Callable[[str], None]) -> None:
+def serve_connection(store: StoreProcess, relays: Relays, connection: socket.socket, keeps_uploads: bool, report: Callable[[str], None]) -> None:
     """Opens a session, connects both by a process, and waits until both have ended. Then the uploads that the session began and left open are aborted."""
     uploads = Uploads(store)
     with contextlib.ExitStack() as ending:

@@ -27,7 +27,7 @@ from .console import count_text
 from .files import FolderInUse, NotSynced, checked_line, checked_text, create_anew, lock_folder, opener_in, replace_file
 from .sessions import Kinds, Session
 from .transfers import Transfers
-from .values import Ended, Refused
+from .values import Ended, Refused, StoreError
 
 INDEX = "index"
 HEADER = "b3store-saved 1"
@@ -57,7 +57,7 @@ Tick = Callable[[], None]
 """Is called again and again while a save or a restoration makes progress."""
 
 
-class SaveError(Exception):
+class SaveError(StoreError):
     """A folder can't be used, or a store can't be saved in it or restored from it."""
 
 

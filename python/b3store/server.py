@@ -49,10 +49,10 @@ from .console import number, one_line, open_standard_files, size
 from .listening import Listener, ListenError, inherited, listen_at, listen_tcp, more_time, notify, read_token
 from .relay import SECONDS_TO_BEGIN, Relays, serve_connection
 from .saved import SavedStore, SaveError, reason_of
-from .server_store import SECONDS_OF_SILENCE, Store, StoreError, remove_left_folders, status_text
+from .server_store import SECONDS_OF_SILENCE, StoreProcess, remove_left_folders, status_text
 from .sessions import can_write
 from .turns import Turns
-from .values import half_of_memory
+from .values import StoreError, half_of_memory
 
 NAME = "b3store.server"
 MAX_SESSIONS = 64
@@ -130,7 +130,7 @@ def write_if_room(target: int, line: bytes) -> bool:
 class Connections:
     """The connections that are open, each with a thread."""
 
-    def __init__(self, store: Store, options: Options) -> None:
+    def __init__(self, store: StoreProcess, options: Options) -> None:
         self._store, self._options = store, options
         self._turns, self._relays = Turns(options.sessions), Relays()
         self._open: Set[socket.socket] = set()
@@ -285,7 +285,7 @@ def leave(connection: socket.socket, line: bytes) -> None:
 class Server:
     """The loop that accepts connections, until a signal or the end of the store."""
 
-    def __init__(self, store: Store, listeners: List[Listener], options: Options, saved: Optional[SavedStore]) -> None:
+    def __init__(self, store: StoreProcess, listeners: List[Listener], options: Options, saved: Optional[SavedStore]) -> None:
         self._store, self._listeners, self._options, self._saved = store, listeners, options, saved
         self._connections, self._more_time = Connections(store, options), more_time()
         self._deadline: Optional[float] = None
@@ -481,7 +481,7 @@ def check_places(words: argparse.Namespace) -> None:
         raise ListenError(f"{words.socket} can't be in the folder of --save")
 
 
-def restore(saved: SavedStore, store: Store) -> None:
+def restore(saved: SavedStore, store: StoreProcess) -> None:
     """Restores the store that is saved."""
     with store.own_session() as session:
         text = saved.restore(session, more_time())
@@ -514,7 +514,7 @@ def serve(words: argparse.Namespace) -> int:
         with contextlib.suppress(OSError):
             remove_left_folders()
         with signals_held():
-            store = Store()
+            store = StoreProcess()
             ending.callback(store.close)
         store.start(words.program, options.sessions, words.memory)
         if saved is not None:
@@ -531,7 +531,7 @@ def main() -> int:
     words = read_words()
     try:
         return serve(words)
-    except (ListenError, SaveError, StoreError, OSError) as error:
+    except (StoreError, OSError) as error:
         report(str(error))
         return 1
     finally:

@@ -16,9 +16,9 @@ import time
 from typing import Any, Callable, Iterable, Iterator, List, NamedTuple, Optional, Set
 
 from .files import FolderInUse, lock_folder
-from .sessions import Session, set_pipe_size
+from .sessions import Session, Sessions, set_pipe_size
 from .transfers import Transfers
-from .values import Ended
+from .values import Ended, StoreError
 
 SECONDS_TO_BEGIN = 30.0
 """How long the program may take to answer, and to open a session."""
@@ -39,10 +39,6 @@ ABORTS_AT_ONCE = 128
 MAX_PIPE_BYTES = 1 << 20
 MAX_PIPES_BYTES = 1 << 25
 """The maximum capacity of all pipes together. Linux grants a user 64 MiB by default."""
-
-
-class StoreError(Exception):
-    """The program can't be started, or doesn't answer as a store does."""
 
 
 class Pipes(NamedTuple):
@@ -139,7 +135,7 @@ class TimedAnswers(io.FileIO):
         return super().readinto(room)
 
 
-class OwnSession(Transfers):
+class OwnSession(Sessions, Transfers):
     """The server's own session, with the methods of a store."""
 
     def __init__(self, session: Session) -> None:
@@ -149,11 +145,8 @@ class OwnSession(Transfers):
     def close(self) -> None:
         """Has no effect: the session ends with the store."""
 
-    def _ended(self, reason: str = "the store has ended", seconds: float = 0) -> Ended:
-        return Ended(reason)
 
-
-class Store:
+class StoreProcess:
     """A running `b3store serve --at DOOR --sessions N`. Its standard input and output are the server's own session."""
 
     def __init__(self) -> None:
@@ -298,7 +291,7 @@ class Store:
         with self._exchange():
             for pipe in self._commands, self._answers:
                 set_pipe_size(pipe, MAX_PIPE_BYTES)
-            yield OwnSession(Session(self._commands, self._answers, lambda reason="the store has ended", seconds=0: Ended(reason)))
+            yield OwnSession(Session(self._commands, self._answers, lambda reason="the store has ended": Ended(reason)))
 
     def _numbers_of(self, line: bytes, kind: bytes) -> Optional[List[int]]:
         """The first number of each row of an answer that starts with the number of its rows. None if the question is refused."""

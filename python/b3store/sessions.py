@@ -23,8 +23,8 @@ MAX_LINE_LEN = 1 << 12
 MAX_AHEAD = 8
 """How many parts are sent before the first one's answer is read. All their answers fit any pipe, so neither side waits for the other."""
 
-MAX_FILED_AHEAD = 24
-"""How many contents are filed, or objects forgotten, before the first one's answers are read. All their answers fit any pipe, too."""
+MAX_AHEAD_LINES = 72
+"""How many objects are forgotten before the first one's answer is read. All their answers fit any pipe, too."""
 
 SECONDS_FOR_ROOM = 0.02
 """How long a session waits, in all, for a descriptor that bytes are moved to."""
@@ -187,9 +187,9 @@ class Session:
         if isinstance(kinds, tuple) and words[0] in kinds:
             return words
         if words == ["busy"]:
-            raise self._ended("the server is busy: each of its sessions has a client", 0)
+            raise self._ended("the server is busy: each of its sessions has a client")
         if words[0] != kinds or kinds == "ok" and len(words) > 1:
-            raise self._ended(f"the store answers {' '.join(words)[:60]!r}", 0)
+            raise self._ended(f"the store answers {' '.join(words)[:60]!r}")
         return words[1:]
 
     def answers(self, kinds: Sequence[Kinds]) -> Tuple[List[List[str]], List[Refused]]:
@@ -358,17 +358,13 @@ class Sessions:
         self._process_id = os.getpid()
         _opened.add(self)
 
-    def close(self) -> Any:
-        """Ends all sessions."""
-        raise NotImplementedError
-
     def _add(self, sessions: Sequence[Session]) -> None:
         self._all += sessions
         self._give_back(sessions)
 
-    def _ended(self, reason: str = "the store has ended", seconds: float = 0) -> Ended:
-        """Why the sessions can't be used any more. It waits up to `seconds` for the process to end."""
-        raise NotImplementedError
+    def _ended(self, reason: str = "the store has ended") -> Ended:
+        """Why the sessions can't be used any more."""
+        return Ended(reason)
 
     def _why(self) -> Callable[..., Ended]:
         """`_ended`, for a session, which it doesn't let keep the store: one that is dropped closes its sessions at once."""
@@ -444,7 +440,7 @@ class Sessions:
         if isinstance(fault, Ended):
             self._fault = Ended(*fault.args)
         elif isinstance(fault, (ValueError, TypeError, IndexError)):
-            self._fault = self._ended(f"the store's answer makes no sense: {fault}", 0)
+            self._fault = self._ended(f"the store's answer makes no sense: {fault}")
             raise Ended(*self._fault.args) from None
         else:
             self._fault = Ended(f"a command was interrupted by {type(fault).__name__}")

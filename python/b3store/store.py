@@ -1,184 +1,217 @@
-"""A store in its own process, which this one starts and ends."""
+"""A store in this process, by the library libb3store."""
 import contextlib
-import errno
+import ctypes
 import functools
+import io
 import os
-import subprocess
-import tempfile
-import time
-from types import TracebackType
-from typing import BinaryIO, Callable, List, Optional, Type, TypeVar, cast
+import threading
+import weakref
+from typing import Any, Callable, List, Optional, Tuple, TypeVar
 
-from .sessions import READ_LEN, Session, set_pipe_size
-from .transfers import Transfers
-from .values import MAX_SESSIONS, Ended, check_number
+from .library import BOUND, NONE, PROGRESS, SEALED, SIZE, U64, WHY, Handle, Result, address_of, load, new_bytes, refusal_of
+from .sessions import Session
+from .transfers import Transfers, Upload
+from .values import MAX_UPLOAD_LEN, PART_LEN, Buffer, Ended, Filed, Held, Refused, check_address, check_bytes, check_number, check_room
 
-MAX_STDERR = 1 << 12
-"""How many of the last bytes of standard error an error carries."""
-PIPE_LEN = 1 << 18
-"""The capacity that a session's pipes are given, if the system allows it."""
-SECONDS_TO_END = 1
-"""How long a store that closed a pipe is given to end."""
-SECONDS_TO_CLOSE = 60
-"""How long a store that is closed is given for a command of another thread, and then to end."""
-SECONDS_TO_START = 30
-"""How long a store is given to open its sessions."""
-SECONDS_BETWEEN_TRIES = 0.01
+FUNCTIONS = (
+    "b3store_begin", "b3store_begin_open", "b3store_close", "b3store_fetch", "b3store_file", "b3store_len", "b3store_lines", "b3store_open", "b3store_plan",
+    "b3store_prepare", "b3store_put", "b3store_read",
+)
+SMALL_LEN = 1 << 14
+"""Up to this many bytes are filed, prepared or read without letting other threads run: a thread that does may wait longer than the call takes."""
+LONG_ANSWERS = (b"entries", b"list", b"tenants", b"uploads")
+"""How the lines begin whose answers may be long."""
+MAX_TENANTS, MAX_ENTRIES, WORKERS = 1 << 16, 1 << 32, 1
 
 Value = TypeVar("Value")
 
 
-class Store(Transfers):
-    """A store in its own process. When it is closed, or this process ends, everything in it is lost.
+@functools.lru_cache(maxsize=None)
+def loaded() -> Tuple[Any, Any]:
+    """The library, whose calls let other threads run, and again for calls that don't."""
+    return load(FUNCTIONS)
 
-        with Store("target/b3store") as store:
+
+class Lines(Session):
+    """The lines of one turn, and their answers."""
+
+    def __init__(self, run: Callable[[bytes], bytes]) -> None:
+        self._run, self._ended = run, Ended
+
+    def write(self, *pieces: Buffer) -> None:
+        """Has the library run lines. Their answers are read next."""
+        self._reading = io.BytesIO(self._run(b"".join(pieces)))
+
+
+class Store(Transfers):
+    """A store in the memory of this process. When it is closed, dropped, or the process ends, everything in it is lost.
+
+        with Store() as store:
             tenant = store.tenant(1 << 30)
             filed = store.upload(b"abc", tenant)
             assert store.fetch(tenant, filed.address) == b"abc"
 
-    Threads can share it: a command takes a free session, so the commands of `sessions` threads run side by side. One session uses the process's
-    standard input and output. The others use named pipes, in a folder that no other user can enter and that is removed once they are open."""
+    Threads can share it: they hash and copy side by side, and take turns for a few microseconds for each command. After it is closed, calls raise ValueError;
+    so they do in a process that was forked, which opens a store of its own."""
 
-    def __init__(self, program: str = "b3store", sessions: int = 4) -> None:
-        """Starts the program. Raises OSError if it can't be started, and Ended if it opens no sessions."""
-        super().__init__()
-        count = check_number("sessions", sessions, 1, MAX_SESSIONS)
-        if count == 1:
-            self._next_upload = 0
-        self._stderr = tempfile.TemporaryFile()
-        try:
-            self._start(program, count)
-        except BaseException:
-            self._stderr.close()
-            raise
+    _at: Any = ctypes.byref(Handle())
+    """The library's handle: here a closed one, which a store has until it is open, and after a fork."""
+    _library: Any = None
 
-    def __enter__(self) -> "Store":
-        return self
+    def __init__(self) -> None:
+        """Opens an empty store. Raises OSError without the library. Refusals: S14."""
+        self._library, self._small = loaded()
+        self._lock = threading.Lock()
+        # what calls store is read before the lock is released
+        self._sealed, self._why, self._left = Result(SEALED), Result(WHY), U64(NONE)
+        self._left_at, self._work_at = ctypes.byref(self._left), ctypes.byref(U64())
+        self._at = ctypes.byref(Handle())
+        self._call(self._small.b3store_open, U64(MAX_TENANTS), U64(MAX_ENTRIES), U64(WORKERS))
+        opened.add(self)
 
-    def __exit__(self, kind: Optional[Type[BaseException]], fault: Optional[BaseException], trace: Optional[TracebackType]) -> None:
-        self.close()
+    def __del__(self) -> None:
+        if self._library is not None:
+            self._library.b3store_close(self._at)
 
-    @property
-    def pid(self) -> int:
-        """The id of the store's process."""
-        return self._process.pid
+    def close(self) -> None:
+        """Frees the store, after the command of another thread. A second call has no effect."""
+        with self._lock:
+            self._library.b3store_close(self._at)
 
-    @property
-    def alive(self) -> bool:
-        """Whether the store can be used: its process runs, and no command was interrupted."""
-        return self._fault is None and self._process.poll() is None
+    def file(self, tenant: int, content: Buffer, address: Optional[str] = None) -> Filed:
+        """Files content. If an address is given, content with another address is refused.
+        Refusals: those of `begin`, `put` and `seal_as`; after a refusal nothing is left of it."""
+        view, tenant = check_bytes(content), check_number("tenant", tenant)
+        if address is None and view.nbytes <= SMALL_LEN:
+            return self._file_small(tenant, content if type(content) is bytes else view.tobytes())
+        address = None if address is None else check_address(address)
+        parts = (view[at : at + PART_LEN] for at in range(0, view.nbytes, PART_LEN))
+        return self._upload_parts(Upload(self, view.nbytes), tenant, None, parts, address, None)
 
-    def close(self) -> int:
-        """Ends the store, once the commands of other threads are done, and returns its exit status. A store that can't be used any more is killed, and so is
-        one that doesn't answer or end for a minute."""
-        with self._closing:
-            if self._fault is not None:
-                self._process.kill()
-            return self._with_all(functools.partial(self._free.get, timeout=SECONDS_TO_CLOSE), self._end)
-
-    def _end(self, sessions: List[Session]) -> int:
-        missing = len(self._all) - len(sessions)
-        if missing:
-            # a command of another thread is not answered
-            self._process.kill()
-            self._take(sessions, self._free.get, missing)
-        for session in sessions:
-            session.close()
-        # a process that has inherited the store has no status to wait for, and a thread of its parent may have locked the wait
-        status = self._wait() if os.getpid() == self._process_id else 0
-        self._stderr.close()
-        self._fault = self._fault or Ended("the store was closed", status)
-        return status
-
-    def _wait(self) -> int:
-        """Waits until the process has ended, and returns its exit status."""
-        try:
-            return self._process.wait(SECONDS_TO_CLOSE)
-        except subprocess.TimeoutExpired:
-            self._process.kill()
-            return self._process.wait()
-
-    def _start(self, program: str, count: int) -> None:
-        """Starts the process, and opens its sessions."""
-        with contextlib.ExitStack() as stack:
-            words, at = [program, "serve"], ""
-            if count > 1:
-                at = os.path.join(stack.enter_context(tempfile.TemporaryDirectory(prefix="b3store-")), "door")
-                os.mkfifo(at, 0o600)
-                words += ["--at", at, "--sessions", str(count - 1)]
-            # in its own session, so that an interrupt at a terminal reaches this process alone
-            self._process = subprocess.Popen(
-                words, stdin=subprocess.PIPE, stdout=subprocess.PIPE, stderr=self._stderr, bufsize=READ_LEN, start_new_session=True
+    def _file_small(self, tenant: int, content: bytes) -> Filed:
+        with self._lock:
+            answer = self._small.b3store_file(
+                self._at, U64(tenant), content, SIZE(len(content)), self._sealed.at, self._left_at, self._why.at, self._work_at
             )
-            opened = [self._session(self._process.stdin, self._process.stdout)]
-            # Python keeps a process object that is dropped while its process runs, which would then never read the end of its input
-            self._process.stdin = self._process.stdout = None
-            try:
-                for number in range(1, count):
-                    opened.append(self._open_session(at, number))
-            except BaseException:
-                self._process.kill()
-                self._process.wait()
-                for session in opened:
-                    session.close()
-                raise
-        self._add(opened)
+            digest, is_new = self._sealed.read()
+            fault = refusal_of(answer, *self._why.read()) if answer else None
+        if fault is not None:
+            self._abort_left()
+            raise fault
+        return Filed(is_new == 1, digest.hex(), len(content))
 
-    def _session(self, sending: object, reading: object) -> Session:
-        for pipe in sending, reading:
-            set_pipe_size(pipe, PIPE_LEN)
-        return Session(sending, cast(BinaryIO, reading), self._why())
+    def _abort_left(self) -> None:
+        """Aborts the upload that a refused call left open, as its abort was refused too."""
+        with self._lock:
+            left, self._left.value = self._left.value, NONE
+        if left != NONE:
+            self.abort(left)
 
-    def _open_session(self, at: str, number: int) -> Session:
-        """Opens a session by the process's door: two named pipes, whose names aren't needed any more once the process has opened them too."""
-        with contextlib.ExitStack() as stack:
-            paths = [f"{at}.{number}.in", f"{at}.{number}.out"]
-            for path in paths:
-                os.mkfifo(path, 0o600)
-                stack.callback(os.close, os.open(path, os.O_RDWR))
-            session = self._session(open(paths[0], "wb"), open(paths[1], "rb", READ_LEN))
-            try:
-                self._knock(at, number)
-                session.write(b"stat\n")
-                self._wait_for(lambda: session.has_answer(SECONDS_BETWEEN_TRIES))
-                session.answer("objects")
-            except BaseException:
-                session.close()
-                raise
-        return session
-
-    def _knock(self, at: str, number: int) -> None:
-        """Writes a number to the door, once the process has opened it."""
-        door = self._wait_for(lambda: open_door(at))
+    def put(self, upload: int, offset: int, part: Buffer) -> Held:
+        """Adds a part to an upload. Refusals: S7, F2 to F6, S9, S15."""
+        view, number, first = check_bytes(part), U64(check_number("upload", upload)), U64(check_number("offset", offset))
+        bound, progress = Result(BOUND), Result(PROGRESS)
+        self._call(self._small.b3store_plan, number, bound.at, self._why.at)
+        length, is_open = bound.read()
+        at, close = ctypes.byref(Handle()), self._small.b3store_close
         try:
-            os.write(door, b"%d\n" % number)
+            count, start = view.nbytes, ctypes.c_void_p(address_of(view))
+            answer = self._calls_for(count).b3store_prepare(at, U64(length), ctypes.c_bool(is_open), first, start, SIZE(count), ctypes.byref(U64()))
+            if answer:
+                raise refusal_of(answer)
+            self._call(self._small.b3store_put, number, at, progress.at, self._why.at, self._work_at)
         finally:
-            os.close(door)
+            close(at)
+        held, missing, is_whole = progress.read()
+        return Held(held, None if is_whole else missing)
 
-    def _wait_for(self, look: Callable[[], Optional[Value]]) -> Value:
-        """Calls a function until it returns something, while the process starts."""
-        end = time.monotonic() + SECONDS_TO_START
-        while self._process.poll() is None and time.monotonic() < end:
-            found = look()
-            if found:
-                return found
-        raise self._ended("the store has ended" if self._process.poll() is not None else "the store opens no session", 0)
+    def _put_all(self, upload: int, offset: int, parts: List[memoryview]) -> None:
+        for part in parts:
+            self.put(upload, offset, part)
+            offset += part.nbytes
 
-    def _ended(self, reason: str = "the store has ended", seconds: float = SECONDS_TO_END) -> Ended:
-        """Why the store can't be used any more, with what its process left."""
-        with contextlib.suppress(subprocess.TimeoutExpired):
-            self._process.wait(seconds)
-        written = os.fstat(self._stderr.fileno()).st_size
-        stderr = os.pread(self._stderr.fileno(), MAX_STDERR, max(0, written - MAX_STDERR))
-        return Ended(reason, self._process.poll(), stderr.decode(errors="replace"))
+    def fetch(self, tenant: int, address: str, offset: int = 0, length: int = MAX_UPLOAD_LEN) -> bytes:
+        """Returns up to `length` bytes of an object, starting at `offset`; by default all. Refusals: S1, S12."""
+        content: bytes = self._read(tenant, address, offset, check_number("length", length))[0]
+        return content
 
+    def fetch_into(self, tenant: int, address: str, room: Buffer, offset: int = 0) -> int:
+        """Reads an object's bytes, starting at `offset`, into a writable buffer, and returns how many it read. These are fewer than the buffer has room for
+        only at the object's end. Refusals: S1, S12."""
+        view = check_room(room)
+        return self._read(tenant, address, offset, view.nbytes, ctypes.c_void_p(address_of(view)))[1]
 
-def open_door(at: str) -> Optional[int]:
-    """Opens a door for writing; None if the store's process has not opened it yet."""
-    try:
-        return os.open(at, os.O_WRONLY | os.O_NONBLOCK)
-    except OSError as fault:
-        if fault.errno != errno.ENXIO:
+    def _read(self, tenant: int, address: str, offset: int, length: int, room: Any = None) -> Tuple[Any, int]:
+        """Reads bytes of an object into memory, or into new bytes. Returns these, and how many were read."""
+        owner, name, offset = U64(check_number("tenant", tenant)), bytes.fromhex(check_address(address)), check_number("offset", offset)
+        at, close = ctypes.byref(Handle()), self._small.b3store_close
+        try:
+            self._call(self._small.b3store_fetch, owner, name, at, self._why.at)
+            return self._copy(at, offset, length, room)
+        finally:
+            close(at)
+
+    def _copy(self, at: Any, offset: int, length: int, room: Any = None) -> Tuple[Any, int]:
+        """The same for bytes of what a handle keeps: an object, or a text."""
+        size = U64()
+        self._small.b3store_len(at, ctypes.byref(size))
+        count = max(0, min(length, size.value - offset))
+        content = new_bytes(None, count) if room is None else room
+        self._calls_for(count).b3store_read(at, U64(offset), content, SIZE(count), ctypes.byref(size))
+        return content, count
+
+    def _fill(self, tenant: int, address: str, view: memoryview, offset: int) -> None:
+        self.fetch_into(tenant, address, view, offset)
+
+    def _move(self, tenant: int, address: str, offset: int, length: int, target: Optional[int]) -> Tuple[int, bytes, Optional[OSError]]:
+        content = self.fetch(tenant, address, offset, length)
+        return len(content), content, None
+
+    def _begin(self, word: str, tenant: int, length: int) -> int:
+        number = U64(NONE)
+        at, begin = ctypes.byref(number), self._small.b3store_begin if word == "begin" else self._small.b3store_begin_open
+        try:
+            self._call(begin, U64(tenant), U64(length), at, self._why.at)
+            # a signal is handled after a call: here its exception can't come between the upload and the caller
+            return number.value
+        except BaseException:
+            with contextlib.suppress(Refused, ValueError):
+                if number.value != NONE:
+                    self.abort(number.value)
             raise
-        time.sleep(SECONDS_BETWEEN_TRIES)
-        return None
+
+    def _calls_for(self, count: int) -> Any:
+        """The library for so many bytes."""
+        return self._small if count <= SMALL_LEN else self._library
+
+    def _call(self, function: Any, *words: Any) -> None:
+        """Calls a function on the store. Raises what its answer says."""
+        with self._lock:
+            answer = function(self._at, *words)
+            if answer:
+                raise refusal_of(answer, *self._why.read())
+
+    def _in_turn(self, work: Callable[[Session], Value]) -> Value:
+        return work(Lines(self._run))
+
+    def _run(self, lines: bytes) -> bytes:
+        """The answers to lines."""
+        at, close, calls = ctypes.byref(Handle()), self._small.b3store_close, self._library if lines.startswith(LONG_ANSWERS) else self._small
+        try:
+            self._call(calls.b3store_lines, lines, SIZE(len(lines)), at, self._work_at)
+            answers: bytes = self._copy(at, 0, NONE)[0]
+            return answers
+        finally:
+            close(at)
+
+
+opened: "weakref.WeakSet[Store]" = weakref.WeakSet()
+
+
+def leave_all() -> None:
+    """Leaves the stores to the parent of a new process, in which no call of the library may be made on them."""
+    for store in list(opened):
+        store._at, store._lock = Store._at, threading.Lock()
+
+
+os.register_at_fork(after_in_child=leave_all)

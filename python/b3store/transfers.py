@@ -31,11 +31,12 @@ class Upload:
     `write` adds bytes at the end. `put` adds parts at any offset instead; then `fix` is needed, unless the length was given or the last part is not a whole
     number of chunks."""
 
-    def __init__(self, commands: "Transfers", number: int, length: Optional[int]) -> None:
-        self._commands, self.number, self._length = commands, number, length
+    def __init__(self, commands: "Transfers", length: Optional[int]) -> None:
+        self._commands, self._length = commands, length
+        self.number = 0
         self.filed: Optional[Filed] = None
         """The object, once the upload is sealed."""
-        self.is_open = True
+        self.is_open = False
         self._kept, self._sent = bytearray(), 0
         self._has_put = False
         self._fault: Optional[BaseException] = None
@@ -52,6 +53,20 @@ class Upload:
         if fault is not None:
             return self._abort_quietly()
         self.seal()
+
+    def _begin(self, tenant: int, max_len: Optional[int] = None, min_len: int = 0) -> None:
+        """Begins the upload. If neither its length nor a maximum is known, its bound is all that the tenant has left, up to OPEN_LEN; if that is less than
+        `min_len`, it is refused."""
+        limit, tries = OPEN_LEN if max_len is None else max_len, MAX_TRIES if self._length is None and max_len is None else 1
+        while not self.is_open:
+            try:
+                self.number = self._commands.begin_open(tenant, limit) if self._length is None else self._commands.begin(tenant, self._length)
+                self.is_open = True
+            except Refused as refusal:
+                tries -= 1
+                if not tries or refusal.number != "S6" or not isinstance(refusal.value, int) or refusal.value < min_len:
+                    raise
+                limit = refusal.value
 
     def put(self, offset: int, part: Buffer) -> Held:
         """Adds a part. Refusals: those of `Commands.put`."""
@@ -128,7 +143,7 @@ class Upload:
 
     def _send(self, parts: List[memoryview]) -> None:
         """Sends parts. After a failure the upload has to be aborted."""
-        self._commands._put_ahead(self.number, self._sent, parts)
+        self._commands._put_all(self.number, self._sent, parts)
         self._sent += sum(part.nbytes for part in parts)
 
 
@@ -199,11 +214,9 @@ class Transfers(Commands):
         that the tenant has left, up to 1 TiB. Refusals: S1, S5, S6."""
         if length is not None and max_len is not None:
             raise ValueError("an upload has a length or a maximum length, not both")
-        if length is not None:
-            length = check_number("length", length)
-            return Upload(self, self.begin(tenant, length), length)
-        number = self._begin_with_free(tenant) if max_len is None else self.begin_open(tenant, max_len)
-        return Upload(self, number, None)
+        upload = Upload(self, None if length is None else check_number("length", length))
+        upload._begin(tenant, max_len)
+        return upload
 
     def upload(
         self, content: Union[Buffer, BinaryIO], tenant: int, length: Optional[int] = None, *, address: Optional[str] = None,
@@ -234,25 +247,13 @@ class Transfers(Commands):
         if view.nbytes <= PART_LEN:
             return self.file(tenant, view, address)
         parts = (view[at : at + PART_LEN] for at in range(0, view.nbytes, PART_LEN))
-        return self._upload_parts(self.start_upload(tenant, view.nbytes), parts, address, progress)
+        return self._upload_parts(Upload(self, view.nbytes), tenant, None, parts, address, progress)
 
     def open(self, tenant: int, address: str, buffering: int = RANGE_LEN) -> Union[io.BufferedReader, StoredObject]:
         """Opens an object as a file object for reading bytes, which can seek. `buffering` is the length of its buffer, 0 for none. Refusals: S1, S12."""
         check_number("buffering", buffering, 0, sys.maxsize)
         raw = StoredObject(self, tenant, check_address(address))
         return io.BufferedReader(raw, buffering) if buffering else raw
-
-    def _begin_with_free(self, tenant: int, min_len: int = 0) -> int:
-        """Begins an upload whose bound is all that the tenant has left, up to OPEN_LEN. Refused if that is less than `min_len`."""
-        max_len = OPEN_LEN
-        for tries in range(MAX_TRIES):
-            try:
-                return self.begin_open(tenant, max_len)
-            except Refused as refusal:
-                if refusal.number != "S6" or not isinstance(refusal.value, int) or refusal.value < min_len or tries == MAX_TRIES - 1:
-                    raise
-                max_len = refusal.value
-        raise AssertionError("not reached")
 
     def _upload_file(
         self, file: Any, tenant: int, length: Optional[int], address: Optional[str], max_len: Optional[int], progress: Optional[Callable[[int], None]]
@@ -264,20 +265,21 @@ class Transfers(Commands):
             check_length(count, length)
             if count <= PART_LEN:
                 return self.file(tenant, first[0] if first else b"", address)
-            return self._upload_parts(self.start_upload(tenant, count), iter(first), address, progress)
+            return self._upload_parts(Upload(self, count), tenant, None, iter(first), address, progress)
         limit = length_of(file, count) if length is None else length
         if max_len is None and limit is not None:
             max_len = -(-limit // CHUNK_LEN) * CHUNK_LEN
-        if max_len is None:
-            upload = Upload(self, self._begin_with_free(tenant, count), None)
-        else:
-            upload = self.start_upload(tenant, length, None if length is not None else max_len)
-        return self._upload_parts(upload, parts_of(file, rooms, first, limit, length), address, progress)
+        parts = parts_of(file, rooms, first, limit, length)
+        return self._upload_parts(Upload(self, length), tenant, max_len, parts, address, progress, count)
 
     def _upload_parts(
-        self, upload: Upload, parts: Iterator[memoryview], address: Optional[str], progress: Optional[Callable[[int], None]]
+        self, upload: Upload, tenant: int, max_len: Optional[int], parts: Iterator[memoryview], address: Optional[str],
+        progress: Optional[Callable[[int], None]], min_len: int = 0,
     ) -> Filed:
+        """Files the content of some parts, by an upload that has not begun."""
         with upload:
+            # here an interrupt can't come between the begin and the block that ends the upload
+            upload._begin(tenant, max_len, min_len)
             while True:
                 batch = list(itertools.islice(parts, PARTS_AT_ONCE))
                 if not batch:

@@ -79,21 +79,8 @@ class Refused(StoreError):
 
 
 class Ended(StoreError):
-    """The connection can't be used any more, and every later call raises the same error. Either the store's process or its server has ended,
-    or it sent something that is not an answer, or an exception interrupted a command."""
-
-    def __init__(self, reason: str, status: Optional[int] = None, stderr: str = "") -> None:
-        super().__init__(reason, status, stderr)
-        self.reason = reason
-        """What went wrong."""
-        self.status = status
-        """The exit status of the store's process; None if it still runs, or is a server's."""
-        self.stderr = stderr
-        """The last bytes that the process wrote to standard error."""
-
-    def __str__(self) -> str:
-        status = "" if self.status is None else f"; its exit status is {self.status}"
-        return self.reason + status + (f"; it wrote {self.stderr!r}" if self.stderr else "")
+    """The connection to a server can't be used any more, and every later call raises the same error. Either the server has ended, or it sent something that is
+    not an answer, or an exception interrupted a command."""
 
 
 class Held(NamedTuple):
@@ -169,6 +156,8 @@ def half_of_memory() -> int:
 
 def check_number(name: str, value: Any, min_value: int = 0, max_value: int = MAX_NUMBER) -> int:
     """Returns an argument that must be an integer in a range. Raises TypeError or ValueError."""
+    if type(value) is int and min_value <= value <= max_value:
+        return value
     try:
         number = int(operator.index(value))
     except TypeError:

@@ -8,6 +8,7 @@ import tempfile
 import threading
 
 from shared import PROGRAM
+from b3store import Client, Store
 
 SESSIONS = 8
 
@@ -91,3 +92,22 @@ def pump(source, target, closes=True):
             while content:
                 content = content[os.write(target, content) :]
     os.close(target if closes else source)
+
+
+@contextlib.contextmanager
+def client_of_a_server(sessions=1):
+    """A client of an empty store."""
+    with Bridge() as server, Client(server.path, sessions=sessions) as store:
+        yield store
+
+
+def over_both(case):
+    """A case of a store in this process, and of a client."""
+    def run():
+        found = []
+        for make in Store, client_of_a_server:
+            with make() as store:
+                found += [f"{make.__name__}: {fault}" for fault in case(store)]
+        return found
+
+    return run

@@ -1,42 +1,27 @@
 """The cases of the package's tests, which tests/clients runs."""
-import os
-
 import hashes
 import hostile
 import installing
 import moves
 import programs
 import served
-import sessions
 import stores
 import transfers
-from shared import TOP
 
 CASES = (
-    ("each command of a session", stores.each_command),
-    ("each refusal of a session", stores.each_refusal),
+    ("each command", stores.each_command),
+    ("each refusal", stores.each_refusal),
     ("wrong arguments", stores.wrong_arguments),
+    ("entries of the journal in pieces", stores.some_entries),
     ("refusals as values", stores.refusals_are_values),
-    ("stores that end", stores.stores_that_end),
-    ("stores that are stopped", stores.stores_that_are_stopped),
-    ("answers that don't fit", stores.answers_that_do_not_fit),
-    ("answers that are too long", transfers.answers_that_are_too_long),
-    ("commands that are interrupted", stores.commands_that_are_broken_off),
-    ("numbers of uploads that are others", stores.numbers_that_are_others),
-    ("commands that are interrupted twice", stores.commands_that_are_interrupted_twice),
-    ("interrupts at any moment", stores.interrupts_at_any_moment),
-    ("interrupts of a look", stores.interrupts_of_a_look),
-    ("interrupts of a move", stores.interrupts_of_a_move),
-    ("commands that take too long", stores.commands_that_take_too_long),
     ("the refusals of the page", stores.refusals_of_the_page),
+    ("buffers of all kinds", stores.buffers_of_all_kinds),
     ("a store that threads share", stores.by_threads),
-    ("a store with sessions that threads share", sessions.by_sessions),
-    ("entries of the journal in pieces", sessions.some_entries),
-    ("sessions side by side", sessions.sessions_side_by_side),
-    ("sessions that fail", sessions.sessions_that_fail),
-    ("sessions of a store that is killed", sessions.sessions_of_a_killed_store),
-    ("numbers of sessions", sessions.numbers_of_sessions),
-    ("stores that are none", stores.stores_that_are_none),
+    ("a store that is closed", stores.closed_stores),
+    ("a store after a fork", stores.stores_after_a_fork),
+    ("the memory of stores", stores.memory_that_is_freed),
+    ("a store without memory", stores.stores_without_memory),
+    ("interrupts at any moment", stores.interrupts_at_any_moment),
     ("uploads from bytes and files of all kinds", transfers.uploads_of_all_sources),
     ("uploads that fail", transfers.uploads_that_fail),
     ("uploads side by side", transfers.uploads_side_by_side),
@@ -58,6 +43,11 @@ CASES = (
     ("places of servers that are wrong", served.places_that_are_wrong),
     ("servers that end", served.servers_that_end),
     ("clients that are closed", served.clients_that_are_closed),
+    ("answers that don't fit", served.answers_that_do_not_fit),
+    ("answers that are too long", served.answers_that_are_too_long),
+    ("commands of a client that are interrupted", served.commands_that_are_interrupted),
+    ("interrupts of a client at any moment", served.interrupts_at_any_moment),
+    ("commands that take too long", served.commands_that_take_too_long),
     *hostile.CASES,
     ("the command line", programs.puts_and_gets),
     ("names of the command line", programs.names_of_all_bytes),
@@ -73,14 +63,7 @@ CASES = (
     ("the package installed", installing.installs),
     ("the names of the package", installing.names),
     ("the package without the library", installing.without_library),
+    ("places of the library", installing.places_of_the_library),
+    *hashes.CASES,
 )
 
-
-def cases():
-    """All of them: those of hashing if a library is there, which tests/c/run has built elsewhere."""
-    yield from CASES
-    library = os.environ.setdefault("B3_LIBRARY", os.path.join(TOP, "target", "libb3.so"))
-    if os.path.exists(library):
-        yield from hashes.CASES
-    else:
-        print(f"skipped: b3store.hashing, as there is no {library}; tests/c/run runs it over the library that it builds")

@@ -1,4 +1,4 @@
-"""b3store.hashing, by the library that B3_LIBRARY names. `python3 python/tests/hashes.py` runs these cases alone."""
+"""b3store.hashing, by the library that B3STORE_LIBRARY names. `python3 python/tests/hashes.py` runs these cases alone."""
 import copy
 import gzip
 import hashlib
@@ -12,9 +12,8 @@ import tempfile
 import timeit
 import unittest.mock
 
-from shared import ABC, EMPTY, SECONDS, TOP, differences, raised
+from shared import ABC, EMPTY, SECONDS, TOP, Interrupted, differences, in_threads, interrupt, raised
 from judging import judged
-from stores import Interrupted, interrupt
 
 LENGTHS = (0, 1, 63, 64, 65, 1023, 1024, 1025, 4095, 4096, 4097, 10000, 1 << 20, (1 << 20) + 1, 3 << 20, (5 << 20) + 77)
 KEY = b"whats the Elvish word for friend"
@@ -138,7 +137,6 @@ def positions_of_files():
 def small_calls():
     """They take microseconds, and threads do not disturb each other."""
     from b3store.hashing import blake3
-    from sessions import in_threads
 
     def work(number):
         content = bytes([number]) * 100

@@ -14,7 +14,8 @@ import time
 import warnings
 
 from served import server_of
-from shared import ABC, FOUR, PROGRAM, SECONDS, TOP, differences, ended, raised, script_of, wait_until
+from bridge import client_of_a_server, over_both
+from shared import ABC, FOUR, SECONDS, TOP, differences, ended, raised, wait_until
 from b3store import MAX_UPLOAD_LEN, AsyncStore, Client, Ended, Store, client
 from b3store.sessions import MAX_LINE_LEN, Session
 
@@ -53,7 +54,7 @@ def answers_that_lie():
     for answers, call in cases:
         with server_of(*answers) as path, Client(path) as store:
             told = ended(call, store)
-            found += differences((told is not None and "makes no sense" in told[0], True), (store.alive, False), (ended(store.stat), told))
+            found += differences((told is not None and "makes no sense" in told, True), (store.alive, False), (ended(store.stat), told))
     ours, theirs = socket.socketpair()
     with ours, theirs:
         session = Session(ours, ours.makefile("rb"), Ended)
@@ -143,7 +144,7 @@ def tokens_without_answer():
                 threading.Thread(target=answer_once, args=(listener, answer), daemon=True).start()
                 start, port = time.monotonic(), listener.getsockname()[1]
                 told = ended(lambda port=port: Client(host="127.0.0.1", port=port, token="00"))
-                found += differences((told is not None and "does not answer the token" in told[0], True), (time.monotonic() - start < SECONDS / 2, True))
+                found += differences((told is not None and "does not answer the token" in told, True), (time.monotonic() - start < SECONDS / 2, True))
     finally:
         client.SECONDS_TO_CONNECT = seconds
     return found
@@ -160,13 +161,13 @@ def answer_once(listener, answer):
 
 def processes_that_inherit():
     """A process after a fork uses none of its parent's connections, whose answers it would take away."""
-    with Store(PROGRAM, sessions=1) as store:
+    with client_of_a_server() as store:
         tenant = store.tenant()
         reading, writing = os.pipe()
         child = os.fork()
         if child == 0:
             try:
-                os.write(writing, (ended(store.stat) or ["nothing is raised"])[0].encode())
+                os.write(writing, (ended(store.stat) or "nothing is raised").encode())
             finally:
                 os._exit(0)
         os.close(writing)
@@ -180,14 +181,14 @@ def closes_beside_a_fork():
     """What a process closes ends although a new process lives, which in turn waits for no thread of its parent."""
     found = []
     with socket.create_server(("127.0.0.1", 0)) as listener:
-        for make in (lambda: Store(PROGRAM, sessions=1), lambda: Store(PROGRAM, sessions=3), lambda: Client(host="127.0.0.1", port=listener.getsockname()[1])):
-            store = make()
+        for count in 1, 3:
+            store = Client(host="127.0.0.1", port=listener.getsockname()[1], sessions=count)
             free, taken = store._free, store._free.get()
             with closed_in_a_fork(store) as told:
                 free.put(taken)
                 closing = threading.Thread(target=store.close, daemon=True)
                 closing.start()
-                is_noticed = not isinstance(store, Client) or listener.accept()[0].recv(1) == b""
+                is_noticed = [listener.accept()[0].recv(1) for _ in range(count)] == [b""] * count
                 closing.join(SECONDS / 2)
                 found += differences((told, b"ok"), (closing.is_alive(), False), (is_noticed, True))
     return found
@@ -210,14 +211,15 @@ def closes_beside_a_reading_thread():
 
 def closes_beside_a_close():
     """A new process also closes a store that a thread of its parent was closing."""
-    with tempfile.TemporaryDirectory() as place:
-        store = Store(script_of(place, "exec sleep 1000"), sessions=1)
+    with server_of(None) as path:
+        store = Client(path)
+        taken = store._free.get()
         closing = threading.Thread(target=store.close, daemon=True)
         closing.start()
         time.sleep(0.2)
         with closed_in_a_fork(store) as told:
             found = differences((told, b"ok"), (closing.is_alive(), True))
-        os.kill(store.pid, signal.SIGKILL)
+        store._free.put(taken)
         closing.join(SECONDS / 2)
         return found + differences((closing.is_alive(), False))
 
@@ -253,8 +255,7 @@ def stores_that_are_dropped():
     """A store that is not closed keeps no descriptor once nothing has it, without a search for cycles of objects."""
     with server_of(b"tenant 0\n") as path, server_of(b"tenant x\n") as other:
         found, makes = [], (
-            lambda: Client(path, sessions=2).alive, lambda: Store(PROGRAM, sessions=3).tenant(), lambda: raised(Client(path).stat),
-            lambda: raised(Client(other).tenant),
+            lambda: Client(path, sessions=2).alive, lambda: raised(Client(path).stat), lambda: raised(Client(other).tenant),
         )
         gc.collect()
         gc.disable()
@@ -289,26 +290,23 @@ class Interrupted:
 def closes_that_are_interrupted():
     """A close that is interrupted while a session is in use loses none, so that the next one ends."""
     with server_of(b"tenant 0\n") as path:
-        found = []
-        for make in (lambda: Client(path, sessions=3), lambda: Store(PROGRAM, sessions=3)):
-            store = make()
-            free, taken = store._free, store._free.get()
-            store._free = Interrupted(free)
-            found += differences((raised(store.close), InterruptedError))
-            store._free = free
-            free.put(taken)
-            closing = threading.Thread(target=store.close, daemon=True)
-            closing.start()
-            closing.join(SECONDS / 2)
-            found += differences((closing.is_alive(), False), (store.alive, False))
-        return found
+        store = Client(path, sessions=3)
+        free, taken = store._free, store._free.get()
+        store._free = Interrupted(free)
+        found = differences((raised(store.close), InterruptedError))
+        store._free = free
+        free.put(taken)
+        closing = threading.Thread(target=store.close, daemon=True)
+        closing.start()
+        closing.join(SECONDS / 2)
+        return found + differences((closing.is_alive(), False), (store.alive, False))
 
 
 async def close_beside_a_pipe():
     """Closes a store while a thread of it reads a pipe, whose other end belongs to the same loop."""
     reading, writing = os.pipe()
     with open(reading, "rb", buffering=0) as source, open(writing, "wb", buffering=0) as target:
-        store = AsyncStore(Store(PROGRAM, sessions=2), 2)
+        store = AsyncStore(Store(), 2)
         upload = asyncio.ensure_future(store.upload(source, await store.tenant()))
         await asyncio.sleep(0.1)
         rescue = threading.Timer(SECONDS / 4, target.close)
@@ -320,13 +318,14 @@ async def close_beside_a_pipe():
         await closing
         rescue.cancel()
         results = await asyncio.gather(upload, store.stat(), return_exceptions=True)
-        return found + differences(([type(result) for result in results], [Ended, Ended]))
+        return found + differences(([type(result) for result in results], [ValueError, ValueError]))
 
 
-def odd_numbers():
+@over_both
+def odd_numbers(store):
     """Numbers that are no int are used as they are; a time has to be one."""
     content = os.urandom(5000)
-    with Store(PROGRAM, sessions=1) as store, tempfile.TemporaryFile() as file:
+    with tempfile.TemporaryFile() as file:
         tenant = store.tenant()
         file.write(content)
         file.seek(0)
@@ -341,7 +340,7 @@ def odd_numbers():
                 found += differences((raised(lambda: store.fetch_to(tenant, address, copy.fileno(), seconds=seconds)), kind), (copy.tell(), 4000))
         with store.open(tenant, address, 0) as stored:
             found += differences((raised(stored.readinto, b"abc"), TypeError), (raised(stored.seek, 1.5), TypeError), (stored.seek(Number(7)), 7))
-        return found + differences((store.alive, True))
+        return found
 
 
 CASES = (

@@ -1,16 +1,18 @@
 """The package, installed by pip."""
 import importlib.util
 import os
+import shutil
 import subprocess
 import sys
 import tempfile
 
 from shared import SECONDS, TOP, differences, raised
 import b3store
+from b3store import library, store
 
 
 def installs():
-    """Without a network and other packages, with its programs and py.typed; nothing is left beside the sources."""
+    """Without a network and other packages, with its programs, py.typed and the library; nothing is left beside the sources."""
     if importlib.util.find_spec("pip") is None:
         print("skipped: the package installed by pip, as there is no pip")
         return []
@@ -23,12 +25,17 @@ def installs():
         ran = subprocess.run(words, capture_output=True, timeout=5 * SECONDS, env=environment)
         if ran.returncode:
             return [ran.stderr.decode()[-500:]]
-        wanted = sorted(name for name in os.listdir(os.path.join(source, "b3store")) if name.endswith(".py") or name == "py.typed")
+        names = [name for name in os.listdir(os.path.join(source, "b3store")) if name.endswith(".py") or name == "py.typed"]
+        wanted = sorted([*names, library.FILE])
         found = differences((sorted(name for name in os.listdir(os.path.join(target, "b3store")) if name != "__pycache__"), wanted), (sorted(os.listdir(source)), before))
         found += differences((os.path.isdir(os.path.join(target, f"b3store-{b3store.__version__}.dist-info")), True))
         program = os.path.join(target, "bin", "b3store-client")
         ran = subprocess.run([sys.executable, program, "--help"], capture_output=True, timeout=SECONDS, env={**environment, "PYTHONPATH": target})
-        return found + differences((ran.returncode, 0), (ran.stdout[:20], b"usage: b3store-clien"))
+        found += differences((ran.returncode, 0), (ran.stdout[:20], b"usage: b3store-clien"))
+        environment.pop("B3STORE_LIBRARY", None)
+        words = "import b3store; print(b3store.Store().tenant(), b3store.store.loaded()[0]._name)"
+        ran = subprocess.run([sys.executable, "-c", words], capture_output=True, timeout=SECONDS, env={**environment, "PYTHONPATH": target})
+        return found + differences((ran.stdout.decode(), f"0 {os.path.realpath(target)}/b3store/{library.FILE}\n"), (ran.stderr, b""))
 
 
 def names():
@@ -37,16 +44,51 @@ def names():
 
 
 def without_library():
-    """Hashing says what is missing, also where the library is another one, and nothing else needs the library."""
-    environment = {**os.environ, "PYTHONPATH": os.path.join(TOP, "python"), "B3_LIBRARY": "/none/libb3.so.1"}
-    for words, wanted in (["import b3store, b3store.asynchronous"], b""), (["import b3store.hashing"], b"or set B3_LIBRARY to the path of libb3.so.1\n"):
-        ran = subprocess.run([sys.executable, "-c", *words], capture_output=True, timeout=SECONDS, env=environment)
-        if not ran.stderr.endswith(wanted) or bool(ran.returncode) != bool(wanted):
+    """What needs the library says where it was looked for, also where it is another one, and nothing else needs it."""
+    environment = {**os.environ, "PYTHONPATH": os.path.join(TOP, "python"), "B3STORE_LIBRARY": "/none/libb3store.so.1"}
+    told = b"install it by `./install`, or set B3STORE_LIBRARY to its path\n"
+    for words, wanted in ("from b3store import AsyncStore, Client, Store, server", b""), ("import b3store.hashing", told), ("import b3store; b3store.Store()", told):
+        ran = subprocess.run([sys.executable, "-c", words], capture_output=True, timeout=SECONDS, env=environment)
+        if not ran.stderr.endswith(wanted) or bool(ran.returncode) != bool(wanted) or wanted and b"(/none/libb3store.so.1: " not in ran.stderr:
             return [ran.stderr.decode()]
     found = []
-    told = b"B3_LIBRARY to the path of libb3.so.1\n"
     for words, status, line, name in (["--help"], 0, b"", None), ([], 3, told, None), (["--threads", "0"], 2, b"is from 1 to 1024\n", None), ([], 3, told, "libc.so.6"):
-        words, environment["B3_LIBRARY"] = [sys.executable, "-m", "b3store.hashing", *words], name or environment["B3_LIBRARY"]
+        words, environment["B3STORE_LIBRARY"] = [sys.executable, "-m", "b3store.hashing", *words], name or environment["B3STORE_LIBRARY"]
         ran = subprocess.run(words, capture_output=True, timeout=SECONDS, env=environment, stdin=subprocess.DEVNULL)
         found += differences((ran.returncode, status), (ran.stderr.endswith(line), True), (b"Traceback" in ran.stderr, False))
     return found
+
+
+def places_of_the_library():
+    """It is found in the package, below the package's prefix, at the level of the processors, and in a clone; not where another user could put one."""
+    found, program = [], "from b3store import library; print(library.load(['b3store_open'])[0]._name)"
+    environment = {name: value for name, value in os.environ.items() if name != "B3STORE_LIBRARY"}
+    for folder, others in PLACES:
+        with tempfile.TemporaryDirectory() as place:
+            package = os.path.join(place, folder, "b3store")
+            shutil.copytree(os.path.join(TOP, "python", "b3store"), package)
+            if "tmp" in folder:
+                os.chmod(os.path.join(place, "tmp"), 0o1777)
+            for at, other in enumerate(others):
+                path = os.path.join(place, other, library.FILE)
+                os.makedirs(os.path.dirname(path), exist_ok=True)
+                os.symlink(store.loaded()[0]._name, path)
+                is_usable = "tmp" not in folder and (library.LEVEL not in other or library.has_level())
+                if not is_usable:
+                    continue
+                ran = subprocess.run([sys.executable, "-c", program], capture_output=True, timeout=SECONDS, env={**environment, "PYTHONPATH": os.path.dirname(package)})
+                found += differences(((folder, at, ran.stdout.decode()), (folder, at, os.path.realpath(os.path.dirname(path)) + f"/{library.FILE}\n")))
+            if "tmp" in folder:
+                ran = subprocess.run([sys.executable, "-c", program], capture_output=True, timeout=SECONDS, env={**environment, "PYTHONPATH": os.path.dirname(package)})
+                found += differences((place in ran.stdout.decode(), False))
+    return found
+
+
+PLACES = (
+    ("share/doc/b3store/python", ["lib", f"lib/glibc-hwcaps/{library.LEVEL}", "share/doc/b3store/python/b3store"]),
+    ("lib/python3.11/site-packages", ["lib", f"lib/glibc-hwcaps/{library.LEVEL}", "lib/python3.11/site-packages/b3store"]),
+    ("clone/python", ["clone/target", "clone/python/b3store"]),
+    ("tmp/python", ["tmp/target"]),
+    ("tmp/share/doc/b3store/python", ["tmp/lib"]),
+)
+"""Where the package may be, and where the library may be then: each place goes before the one before it."""

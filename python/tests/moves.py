@@ -9,9 +9,10 @@ import threading
 import time
 import tty
 
-from shared import FOUR, PROGRAM, differences, ended, raised, refusal, script_of
-from stores import Interrupted, interrupt
-from b3store import Refused, Store
+from bridge import client_of_a_server, over_both
+from served import server_of
+from shared import FOUR, Interrupted, alarms, differences, ended, raised, refusal
+from b3store import Client, Refused, Store
 from b3store import sessions
 
 LENGTH = 1000003
@@ -47,12 +48,12 @@ def to_a_slow_socket(store, content, address):
 
 
 def writes_to_descriptors():
-    """With the system's way to move bytes and without it; what can't be written to leaves the store as it is."""
+    """With the system's way to move bytes and without it, and from this process; what can't be written to leaves the store as it is."""
     content, found, splice = os.urandom(LENGTH), [], sessions._splice
-    for way in splice, None:
+    for make, way in (client_of_a_server, splice), (client_of_a_server, None), (Store, splice):
         sessions._splice = way
         try:
-            with Store(PROGRAM, sessions=1) as store, open("/dev/full", "wb") as full, open(os.devnull, "rb") as readable:
+            with make() as store, open("/dev/full", "wb") as full, open(os.devnull, "rb") as readable:
                 address = store.upload(content, store.tenant()).address
                 found += to_files(store, content, address) + to_a_slow_socket(store, content, address)
                 reading, broken = os.pipe()
@@ -68,11 +69,11 @@ def writes_to_descriptors():
 
 
 def ends_within_an_object():
-    """Stores that end, or answer nonsense, while an object is written."""
+    """Servers that end, or answer nonsense, while an object is written."""
     found = []
-    with tempfile.TemporaryDirectory() as place, open(os.devnull, "wb") as nowhere:
-        for answer in r"bytes 262144\nabc", r"byt", r"bytes 262145\n", r"bytes x\n", r"held 5\n", "":
-            with Store(script_of(place, f"read -r line; printf '{answer}'; exit 7"), sessions=1) as store:
+    with open(os.devnull, "wb") as nowhere:
+        for answer in b"bytes 262144\nabc", b"byt", b"bytes 2621450\n", b"bytes x\n", b"held 5\n", b"":
+            with server_of(answer) as path, Client(path) as store:
                 found += [] if ended(store.fetch_to, 0, FOUR, nowhere.fileno()) else [f"{answer!r}: the store goes on"]
                 found += differences((store.alive, False))
     return found
@@ -86,9 +87,8 @@ def waits_for_a_slow_store():
         calls.append(words)
         return splice(*words)
 
-    answer = r"read -r line; printf 'bytes 9000\n'; for part in 1 2 3; do sleep 0.3; head -c 3000 /dev/zero; done; read -r line"
     reading, writing = os.pipe()
-    with open(reading, "rb") as pipe, tempfile.TemporaryDirectory() as place, Store(script_of(place, answer), sessions=1) as store:
+    with open(reading, "rb") as pipe, server_of((b"bytes 9000\n", bytes(3000), bytes(3000), bytes(3000)), None) as path, Client(path) as store:
         sessions._splice = splice and counted
         try:
             found += differences((store.fetch_to(0, FOUR, writing, 0, 9000), 9000))
@@ -110,31 +110,27 @@ def ends_of(make):
     return os.fdopen(writing, "wb", 0), os.fdopen(reading, "rb", 0)
 
 
-def keeps_the_mode():
+@over_both
+def keeps_the_mode(store):
     """Other processes share the mode of a descriptor: it is the same while bytes are written to it, after that, and after an interrupt."""
-    content, found, before = os.urandom(LENGTH), [], signal.signal(signal.SIGALRM, interrupt)
-    try:
-        with Store(PROGRAM, sessions=1) as store:
-            address = store.upload(content, store.tenant()).address
-            for make in os.pipe, pty.openpty, socket.socketpair:
-                writing, reading = ends_of(make)
-                with writing, reading:
-                    flags, seen = fcntl.fcntl(writing, fcntl.F_GETFL), []
-                    writer = threading.Thread(target=lambda: seen.append(store.fetch_to(0, address, writing.fileno())))
-                    writer.start()
-                    time.sleep(0.2)
-                    seen += [fcntl.fcntl(writing, fcntl.F_GETFL), writer.is_alive(), store.stat().objects]
-                    got = b""
-                    while len(got) < LENGTH:
-                        got += reading.read(LENGTH)
-                    writer.join()
-                    found += differences((got == content, True), (seen, [flags, True, 1, LENGTH]), (fcntl.fcntl(writing, fcntl.F_GETFL), flags))
-                    signal.setitimer(signal.ITIMER_REAL, 0.3)
-                    found += differences((raised(store.fetch_to, 0, address, writing.fileno()), Interrupted), (fcntl.fcntl(writing, fcntl.F_GETFL), flags))
-                    found += differences((store.stat().objects, 1))
-    finally:
-        signal.setitimer(signal.ITIMER_REAL, 0)
-        signal.signal(signal.SIGALRM, before)
+    content, found = os.urandom(LENGTH), []
+    address = store.upload(content, store.tenant()).address
+    for make in os.pipe, pty.openpty, socket.socketpair:
+        writing, reading = ends_of(make)
+        with writing, reading, alarms():
+            flags, seen = fcntl.fcntl(writing, fcntl.F_GETFL), []
+            writer = threading.Thread(target=lambda: seen.append(store.fetch_to(0, address, writing.fileno())))
+            writer.start()
+            time.sleep(0.2)
+            seen += [fcntl.fcntl(writing, fcntl.F_GETFL), writer.is_alive(), store.stat().objects]
+            got = b""
+            while len(got) < LENGTH:
+                got += reading.read(LENGTH)
+            writer.join()
+            found += differences((got == content, True), (seen, [flags, True, 1, LENGTH]), (fcntl.fcntl(writing, fcntl.F_GETFL), flags))
+            signal.setitimer(signal.ITIMER_REAL, 0.3)
+            found += differences((raised(store.fetch_to, 0, address, writing.fileno()), Interrupted), (fcntl.fcntl(writing, fcntl.F_GETFL), flags))
+            found += differences((store.stat().objects, 1))
     return found
 
 

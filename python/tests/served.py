@@ -4,16 +4,17 @@ import io
 import os
 import pathlib
 import re
+import signal
 import socket
+import sys
 import tempfile
 import textwrap
 import threading
 import time
 
 from bridge import Bridge
-from shared import ABC, FOUR, SECONDS, TOP, differences, ended, raised, refusal
+from shared import ABC, FOUR, SECONDS, TOP, Interrupted, alarms, differences, ended, in_threads, interrupt, interrupted_calls, raised, refusal
 from b3store import Client, Ended, Filed, Held, Usage
-from sessions import in_threads
 from transfers import PART_LEN, content_of
 
 TOKEN = "0123456789abcdefABCDEF"
@@ -29,7 +30,7 @@ def over_a_socket():
             address = store.upload(io.BytesIO(content), tenant).address
             found += differences((store.fetch(tenant, address) == content, True), (b"".join(store.ranges(tenant, address, 1 << 20)) == content, True))
             found += differences((store.open(tenant, address).read() == content, True), (refusal(store.usage, 5), ("S1", None)), (store.alive, True))
-        found += differences((store.alive, False), (ended(store.stat), ("the client was closed", None, "")), (store.close(), None))
+        found += differences((store.alive, False), (ended(store.stat), "the client was closed"), (store.close(), None))
         with Client(pathlib.Path(server.path), sessions=1) as store:
             return found + differences((store.file(0, b"abc"), Filed(False, ABC, 3)), (store.usage(0), Usage(len(content) + 3, 0, 1 << 30)))
 
@@ -69,7 +70,7 @@ def over_tcp():
             found = differences((store.upload(b"abc", store.tenant()), Filed(True, ABC, 3)))
         for token in "00", TOKEN.lower(), TOKEN[:-1]:
             told = ended(lambda: Client(host="127.0.0.1", port=server.port, token=token))
-            found += differences((told and told[0], f"127.0.0.1:{server.port} closes the connection: is the token right?"))
+            found += differences((told, f"127.0.0.1:{server.port} closes the connection: is the token right?"))
         return found
 
 
@@ -96,7 +97,8 @@ def places_that_are_wrong():
 
 @contextlib.contextmanager
 def server_of(*answers):
-    """A server whose connections get some bytes, each after a line, and are then closed. With None for bytes it waits for ever."""
+    """A server whose connections get some bytes, each after a line, and are then closed. With None for bytes it waits for ever, with a tuple it pauses before
+    each of its bytes."""
     with tempfile.TemporaryDirectory() as place, socket.socket(socket.AF_UNIX) as listener:
         path = os.path.join(place, "socket")
         listener.bind(path)
@@ -110,7 +112,9 @@ def server_of(*answers):
                     if answer is None:
                         is_done.wait(SECONDS)
                         return
-                    connection.sendall(answer)
+                    for piece in answer if isinstance(answer, tuple) else [answer]:
+                        time.sleep(0.3 if isinstance(answer, tuple) else 0)
+                        connection.sendall(piece)
 
         def accept():
             with contextlib.suppress(OSError):
@@ -136,7 +140,7 @@ def servers_that_end():
         with server_of(*answers) as path, Client(path) as store:
             found += differences(([store.tenant() for _ in range(count)], list(range(count))))
             told = ended(store.tenant)
-            found += differences((told is not None and reason in told[0], True), (ended(store.stat), told), (ended(store.fetch, 0, ABC), told), (store.alive, False))
+            found += differences((told is not None and reason in told, True), (ended(store.stat), told), (ended(store.fetch, 0, ABC), told), (store.alive, False))
     with server_of(b"tenant 0\n") as path, Client(path) as store:
         store.tenant()
         end = time.monotonic() + SECONDS
@@ -157,3 +161,85 @@ def clients_that_are_closed():
         store.close()
         thread.join(SECONDS)
         return differences((results, [Ended]), (raised(store.stat), Ended))
+
+
+WRONG_ANSWERS = (
+    "frob", "tenant", "tenant x", "refused", "refused S6 free x", "refused S6 free", "", "held 3", "tenant -1", "tenant +1", "tenant 1_0", "tenant 1\r",
+    "refused S11 found 5", "tenant 0 1",
+)
+
+
+def answers_that_do_not_fit():
+    """After the first of them nothing is asked any more, whatever the server would answer."""
+    found = []
+    for answer in WRONG_ANSWERS:
+        with server_of(answer.encode() + b"\n", b"tenant 0\n") as path, Client(path) as store:
+            found += differences(((answer, raised(store.tenant)), (answer, Ended)), (raised(store.tenant), Ended), (store.alive, False))
+    return found
+
+
+def answers_that_are_too_long():
+    """More bytes than were asked for, or fewer than were promised, are no answer."""
+    found = []
+    for text in b"bytes 6\nabcdef", b"bytes -1\nabc", b"bytes 99999999999999999999999\nabc", b"bytes\n", b"bytes 5\nabc":
+        for call in (lambda store: store.fetch(0, ABC, 0, 5)), (lambda store: store.fetch_into(0, ABC, bytearray(5))):
+            with server_of(text) as path, Client(path) as store:
+                found += differences((raised(call, store), Ended), (raised(store.stat), Ended), (store.alive, False))
+    return found
+
+
+def commands_that_are_interrupted():
+    """If an exception interrupts a command, the client can't be used any more: an answer is unread. A second one may come before the first one is noted."""
+    with alarms(), server_of(None) as path, Client(path) as store:
+        signal.setitimer(signal.ITIMER_REAL, 0.2)
+        found = differences((raised(store.put, 0, 0, bytes(1 << 24)), Interrupted), (ended(store.stat), "a command was interrupted by Interrupted"), (store.alive, False))
+    with server_of(b"tenant x\n") as path, Client(path) as store:
+        store._note = interrupt
+        found += differences((raised(store.tenant), Interrupted))
+        del store._note
+        return found + differences((ended(store.stat), "a command was interrupted"), (store.alive, False))
+
+
+def interrupts_at_any_moment():
+    """No interrupt of a command, or of `alive`, keeps a session, and none of `fetch_to` changes the mode of its descriptor. Older versions of Python look for
+    signals before nearly each step, also of a finally: there it is only rarer."""
+    if sys.version_info < (3, 11):
+        return []
+    found, sink = [], os.open(os.devnull, os.O_WRONLY)
+    with alarms(), Bridge() as server:
+        for number in range(100):
+            with Client(server.path) as store:
+                interrupted_calls(store.stat, 0.002 + number / 20000)
+                found += differences((store._free.qsize(), 1))
+        with Client(server.path, sessions=3) as store:
+            for number in range(1000):
+                interrupted_calls(lambda: store.alive, 0.0001 + number / 10000000)
+                kept = 3 - store._free.qsize()
+                store._give_back(store._all[:kept])
+                found += differences((kept, 0))
+            store._in_turn = lambda _: (PART_LEN, b"", None)
+            for number in range(1000):
+                interrupted_calls(lambda: store.fetch_to(0, ABC, sink), 0.0001 + number / 10000000)
+                found += differences((os.get_blocking(sink), True))
+    os.close(sink)
+    return found[:1]
+
+
+def give_up(*_):
+    raise TimeoutError("it takes too long")
+
+
+def commands_that_take_too_long():
+    """A handler may raise an OSError, as TimeoutError: it reaches the caller, and isn't taken for the end of the server."""
+    found, sink = [], os.open(os.devnull, os.O_WRONLY)
+    cases = (
+        (None, lambda store: store.stat()), (b"bytes 5", lambda store: store.stat()), (None, lambda store: store.put(0, 0, bytes(1 << 24))),
+        (b"bytes 5\nabc", lambda store: store.fetch(0, ABC)), (b"bytes 5\nabc", lambda store: store.fetch_into(0, ABC, bytearray(5))),
+        (b"bytes 5", lambda store: store.fetch_to(0, ABC, sink)), (b"bytes 5\nabc", lambda store: store.fetch_to(0, ABC, sink)),
+    )
+    for answer, call in cases:
+        with alarms(give_up), server_of(answer, None) as path, Client(path) as store:
+            signal.setitimer(signal.ITIMER_REAL, 0.3)
+            found += differences((raised(call, store), TimeoutError), (ended(store.stat), "a command was interrupted by TimeoutError"))
+    os.close(sink)
+    return found

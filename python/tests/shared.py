@@ -1,7 +1,10 @@
 """What the cases of this folder and of tests/clients share."""
+import contextlib
 import os
 import pickle
+import signal
 import sys
+import threading
 
 TOP = os.path.dirname(os.path.dirname(os.path.dirname(os.path.abspath(__file__))))
 sys.path[1:1] = [os.path.join(TOP, "tests", "common"), os.path.join(TOP, "python"), os.path.join(TOP, "examples")]
@@ -38,20 +41,63 @@ def raised(call, *words):
     return None
 
 
-def script_of(place, text):
-    """Writes a shell script into a folder, and returns its path."""
-    program = os.path.join(place, "store")
-    with open(program, "w", encoding="ascii") as script:
-        script.write(f"#!/usr/bin/env bash\n{text}\n")
-    os.chmod(program, 0o755)
-    return program
-
-
 def ended(call, *words):
-    """The reason, status and standard error of the Ended that a call raises, if its copy by pickle has the same; else None."""
+    """What the Ended says that a call raises, if its copy by pickle says the same; else None."""
     try:
         call(*words)
     except Ended as fault:
-        again = pickle.loads(pickle.dumps(fault))
-        return (fault.reason, fault.status, fault.stderr) if str(fault) == str(again) and fault.args == again.args else None
+        return str(fault) if str(pickle.loads(pickle.dumps(fault))) == str(fault) else None
     return None
+
+
+def in_threads(call, count):
+    """What a call returns or raises in each of several threads that make it at once."""
+    found = []
+
+    def work(number):
+        try:
+            found.append(call(number))
+        except Exception as fault:
+            found.append(type(fault))
+
+    workers = [threading.Thread(target=work, args=(number,), daemon=True) for number in range(count)]
+    for worker in workers:
+        worker.start()
+    for worker in workers:
+        worker.join(SECONDS)
+    return found
+
+
+class Interrupted(Exception):
+    """What a signal's handler raises."""
+
+
+def interrupt(*_):
+    raise Interrupted
+
+
+@contextlib.contextmanager
+def alarms(handler=interrupt):
+    """Handles SIGALRM within a block."""
+    before = signal.signal(signal.SIGALRM, handler)
+    try:
+        yield
+    finally:
+        # without its handler, an alarm that is still due would end the tests
+        signal.setitimer(signal.ITIMER_REAL, 0)
+        signal.signal(signal.SIGALRM, before)
+
+
+def interrupted_calls(call, seconds):
+    """Calls a function until it is interrupted, and returns how often."""
+    calls = 0
+    try:
+        # Python drops an exception that comes while it frees an object
+        signal.setitimer(signal.ITIMER_REAL, seconds, 1)
+        while True:
+            call()
+            calls += 1
+    except Interrupted:
+        return calls
+    finally:
+        signal.setitimer(signal.ITIMER_REAL, 0)

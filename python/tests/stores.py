@@ -1,59 +1,63 @@
-"""A store over one session."""
+"""The commands of a store in this process, and of a client; and what befalls the one in this process."""
 import array
 import contextlib
 import copy
+import gc
+import mmap
 import os
 import pickle
 import re
+import resource
 import signal
-import socket
+import subprocess
 import sys
-import tempfile
 import threading
-import time
 
-from shared import ABC, EMPTY, FOUR, PROGRAM, SECONDS, TOP, differences, ended, raised, refusal, script_of, wait_until
-from b3store import PART_LEN, REFUSALS, Client, Counts, Ended, Filed, Held, OpenUpload, Refused, Store, Totals, Usage
-from b3store import store as store_module
+from bridge import client_of_a_server, over_both
+from shared import ABC, EMPTY, FOUR, SECONDS, TOP, alarms, differences, in_threads, interrupted_calls, raised, refusal
+from b3store import MAX_NUMBER, PART_LEN, REFUSALS, Counts, Filed, Held, OpenUpload, Refused, Store, Totals, Usage
+from b3store.store import SMALL_LEN
 from b3store.values import half_of_memory
 
 JOURNAL = ["tenant 0 4096", "begin 0 0 3", "put 0 0 3", f"seal 0 {ABC} new"]
+SIZES = (0, 1, 1000, SMALL_LEN, SMALL_LEN + 1, PART_LEN, PART_LEN + 1)
+"""Lengths of contents, which take each of the ways to file one."""
 
 
-def each_command():
-    with Store(PROGRAM, sessions=1) as store:
-        tenant = store.tenant(4096)
-        upload = store.begin(tenant, 3)
-        found = differences(
-            (tenant, 0), (upload, 0), (store.uploads(0), [OpenUpload(0, 3, 3, 0)]), (store.put(0, 0, b"abc"), Held(3, None)),
-            (store.seal(0), Filed(True, ABC, 3)), (store.entries(), JOURNAL), (store.entries(2), JOURNAL[2:]), (store.entries(4), []),
-            (store.has(0, ABC), 3), (store.has(0, FOUR), None), (store.fetch(0, ABC), b"abc"), (store.fetch(0, ABC, 1, 1), b"b"),
-            (store.fetch(0, ABC, 3), b""), (store.list(0), {ABC: 3}), (store.begin_open(0, 2048), 1), (store.put(1, 0, bytes(1024)), Held(1024, 1024)),
-            (store.uploads(0), [OpenUpload(1, 2048, None, 1024)]), (store.usage(0), Usage(3, 2048, 4096)), (store.fix(1, 1024), None),
-            (store.uploads(0), [OpenUpload(1, 2048, 1024, 1024)]), (store.limit(0, 2000), None), (store.tenant(5), 1),
-            (store.tenants(), {0: Usage(3, 1024, 2000), 1: Usage(0, 0, 5)}), (store.stat(), Totals(1, 3, 1, 1024, 1)),
-            (store.counts(), Counts(9, 2, 1, 3, 1, 1024, 1)),
-            (store.abort(1), None), (store.file(1, b"abc"), Filed(False, ABC, 3)), (store.forget(0, ABC), None), (store.list(0), {}),
-            (b"".join(store.ranges(1, ABC, 2)), b"abc"), (store.tenant(), 2), (store.usage(2), Usage(0, 0, half_of_memory())), (store.close(), 0),
-        )
-    return found
+@over_both
+def each_command(store):
+    tenant = store.tenant(4096)
+    upload = store.begin(tenant, 3)
+    return differences(
+        (tenant, 0), (upload, 0), (store.uploads(0), [OpenUpload(0, 3, 3, 0)]), (store.put(0, 0, b"abc"), Held(3, None)),
+        (store.seal(0), Filed(True, ABC, 3)), (store.entries(), JOURNAL), (store.entries(2), JOURNAL[2:]), (store.entries(4), []),
+        (store.has(0, ABC), 3), (store.has(0, FOUR), None), (store.fetch(0, ABC), b"abc"), (store.fetch(0, ABC, 1, 1), b"b"),
+        (store.fetch(0, ABC, 3), b""), (store.fetch(0, ABC, MAX_NUMBER), b""), (store.list(0), {ABC: 3}), (store.begin_open(0, 2048), 1),
+        (store.put(1, 0, bytes(1024)), Held(1024, 1024)), (store.uploads(0), [OpenUpload(1, 2048, None, 1024)]), (store.usage(0), Usage(3, 2048, 4096)),
+        (store.fix(1, 1024), None), (store.uploads(0), [OpenUpload(1, 2048, 1024, 1024)]), (store.limit(0, 2000), None), (store.tenant(5), 1),
+        (store.tenants(), {0: Usage(3, 1024, 2000), 1: Usage(0, 0, 5)}), (store.stat(), Totals(1, 3, 1, 1024, 1)),
+        (store.counts(), Counts(9, 2, 1, 3, 1, 1024, 1)), (store.abort(1), None), (store.file(1, b"abc"), Filed(False, ABC, 3)), (store.forget(0, ABC), None), (store.list(0), {}),
+        (b"".join(store.ranges(1, ABC, 2)), b"abc"), (store.tenant(), 2), (store.usage(2), Usage(0, 0, half_of_memory())), (store.close(), None),
+    )
 
 
-def each_refusal():
-    with Store(PROGRAM, sessions=1) as store:
-        store.tenant(3000)
-        store.begin_open(0, 2048)
-        upload = store.begin(0, 3)
-        store.put(upload, 0, b"abc")
-        return differences(
-            (refusal(store.usage, 1), ("S1", None)), (refusal(store.tenant, (1 << 46) + 1), ("S3", None)), (refusal(store.limit, 0, 5), ("S4", 2051)),
-            (refusal(store.begin, 0, (1 << 44) + 1), ("S5", None)), (refusal(store.begin, 0, 950), ("S6", 949)), (refusal(store.seal, 7), ("S7", None)),
-            (refusal(store.put, upload, 0, b"abc"), ("S9", 0)), (refusal(store.put, 7, 0, bytes(1 << 20)), ("S7", None)),
-            (refusal(store.put, 0, 0, b""), ("F2", None)), (refusal(store.put, 0, 1, b"a"), ("F3", None)), (refusal(store.put, 0, 2048, b"a"), ("F4", None)),
-            (refusal(store.put, 0, 0, bytes((1 << 24) + 1)), ("F4", None)), (refusal(store.seal, 0), ("S16", None)),
-            (refusal(store.seal_as, upload, FOUR), ("S11", ABC)), (refusal(store.fetch, 0, ABC), ("S12", None)), (store.put(0, 1024, b"a"), Held(1, 0)),
-            (refusal(store.fix, 0, 5), ("S15", 1025)), (refusal(store.seal, 0), ("S10", 0)), (refusal(store.forget, 0, ABC), ("S12", None)),
-        )
+@over_both
+def each_refusal(store):
+    store.tenant(3000)
+    store.begin_open(0, 2048)
+    upload = store.begin(0, 3)
+    store.put(upload, 0, b"abc")
+    return differences(
+        (refusal(store.usage, 1), ("S1", None)), (refusal(store.tenant, (1 << 46) + 1), ("S3", None)), (refusal(store.limit, 0, 5), ("S4", 2051)),
+        (refusal(store.begin, 0, (1 << 44) + 1), ("S5", None)), (refusal(store.begin, 0, 950), ("S6", 949)), (refusal(store.seal, 7), ("S7", None)),
+        (refusal(store.file, 0, bytes(950)), ("S6", 949)), (refusal(store.file, 1, b"abc"), ("S1", None)), (refusal(store.file, 0, b"abc", FOUR), ("S11", ABC)),
+        (refusal(store.put, upload, 0, b"abc"), ("S9", 0)), (refusal(store.put, 7, 0, bytes(1 << 20)), ("S7", None)),
+        (refusal(store.put, 0, 0, b""), ("F2", None)), (refusal(store.put, 0, 1, b"a"), ("F3", None)), (refusal(store.put, 0, 2048, b"a"), ("F4", None)),
+        (refusal(store.put, 0, 0, bytes((1 << 24) + 1)), ("F4", None)), (refusal(store.seal, 0), ("S16", None)),
+        (refusal(store.seal_as, upload, FOUR), ("S11", ABC)), (refusal(store.fetch, 0, ABC), ("S12", None)), (store.put(0, 1024, b"a"), Held(1, 0)),
+        (refusal(store.fix, 0, 5), ("S15", 1025)), (refusal(store.seal, 0), ("S10", 0)), (refusal(store.forget, 0, ABC), ("S12", None)),
+        (store.stat(), Totals(0, 0, 2, 4, 2)),
+    )
 
 
 class Text(str):
@@ -70,34 +74,46 @@ class NotEven:
         raise TypeError
 
 
-def wrong_arguments():
+@over_both
+def wrong_arguments(store):
     """They raise before anything is sent: the commands after them are answered as if they had not been made."""
-    with Store(PROGRAM, sessions=1) as store:
-        tenant, upload = store.tenant(4096), store.begin(0, 8)
-        found = differences(*(
-            (raised(store.put, upload, 0, part), TypeError) for part in ("settings", None, 5, [1, 2], {"a": 1}, memoryview(b"settings")[::2], object())
-        ))
-        found += differences((store.put(upload, 0, array.array("I", [1, 2])), Held(8, None)), (store.seal(upload).length, 8))
-        found += differences(*((raised(store.usage, number), TypeError) for number in ("0", 0.0, None, b"0", [0], NotEven(), "0\nabort 0")))
-        found += differences(*((raised(store.usage, number), ValueError) for number in (-1, 1 << 64, 10 ** 5000)))
-        filed = store.file(tenant, b"abc")
-        wrong = (filed.address + "\nforget 0 " + filed.address, "", ABC[:-1], ABC + "0", "g" * 64, ABC + "\n", "\u0660" * 64, " " + ABC[1:])
-        calls = lambda tenant, address: store.file(tenant, b"abc", address), lambda tenant, address: store.fetch_to(tenant, address, 1, 0, 0)
-        for call in store.has, store.fetch, store.forget, *calls:
-            found += differences(*((raised(call, tenant, address), ValueError) for address in wrong))
-            found += differences(*((raised(call, tenant, address), TypeError) for address in (ABC.encode(), [], 5)))
-        found += differences((raised(store.ranges, tenant, ABC, 0), ValueError), (raised(store.file, tenant, "abc"), TypeError))
-        found += differences(*((raised(call, "0", []), TypeError) for call in (store.file_all, store.forget_all)))
-        found += differences((store.has(tenant, Text(ABC)), 3), (store.file(tenant, array.array("I")).length, 0), (store.forget(tenant, EMPTY), None))
-        return found + differences(
-            (store.has(tenant, ABC.upper()), 3), (store.stat(), Totals(2, 11, 0, 0, 0)), (store.usage(True - 1).used, 11), (store.alive, True),
-            (store.fetch(tenant, list(store.list(tenant))[0]), array.array("I", [1, 2]).tobytes()), (len(store.entries()), 10),
-        )
+    tenant, upload = store.tenant(4096), store.begin(0, 8)
+    found = differences(*(
+        (raised(store.put, upload, 0, part), TypeError) for part in ("settings", None, 5, [1, 2], {"a": 1}, memoryview(b"settings")[::2], object())
+    ))
+    found += differences((store.put(upload, 0, array.array("I", [1, 2])), Held(8, None)), (store.seal(upload).length, 8))
+    for call in store.usage, lambda number: store.file(number, b"abc"), lambda number: store.put(number, 0, b"abc"), lambda number: store.fetch(number, ABC):
+        found += differences(*((raised(call, number), TypeError) for number in ("0", 0.0, None, b"0", [0], NotEven(), "0\nabort 0")))
+        found += differences(*((raised(call, number), ValueError) for number in (-1, 1 << 64, 10 ** 5000)))
+    filed = store.file(tenant, b"abc")
+    wrong = (filed.address + "\nforget 0 " + filed.address, "", ABC[:-1], ABC + "0", "g" * 64, ABC + "\n", "\u0660" * 64, " " + ABC[1:])
+    calls = lambda tenant, address: store.file(tenant, b"abc", address), lambda tenant, address: store.fetch_to(tenant, address, 1, 0, 0)
+    for call in store.has, store.fetch, store.forget, *calls:
+        found += differences(*((raised(call, tenant, address), ValueError) for address in wrong))
+        found += differences(*((raised(call, tenant, address), TypeError) for address in (ABC.encode(), [], 5)))
+    found += differences((raised(store.ranges, tenant, ABC, 0), ValueError), (raised(store.file, tenant, "abc"), TypeError))
+    found += differences(*((raised(call, "0", []), TypeError) for call in (store.file_all, store.forget_all)))
+    found += differences((store.has(tenant, Text(ABC)), 3), (store.file(tenant, array.array("I")).length, 0), (store.forget(tenant, EMPTY), None))
+    found += differences((raised(store.entries, 0, -1), ValueError), (raised(store.entries, 0, "1\nabort 0"), TypeError), (raised(Store, "b3store"), TypeError))
+    return found + differences(
+        (store.has(tenant, ABC.upper()), 3), (store.stat(), Totals(2, 11, 0, 0, 0)), (store.usage(True - 1).used, 11),
+        (store.fetch(tenant, list(store.list(tenant))[0]), array.array("I", [1, 2]).tobytes()), (len(store.entries()), 10),
+    )
+
+
+@over_both
+def some_entries(store):
+    """The journal in pieces."""
+    store.tenant(4096)
+    store.file(0, b"abc")
+    pieces = [store.entries(start, 2) for start in range(0, 6, 2)]
+    found = differences((pieces, [JOURNAL[:2], JOURNAL[2:], []]), (store.entries(1, 1), JOURNAL[1:2]), (store.entries(1, MAX_NUMBER), JOURNAL[1:]))
+    return found + differences((store.entries(count=1), JOURNAL[:1]), (store.stat(), Totals(1, 3, 0, 0, 0)))
 
 
 def refusals_are_values():
     """A refusal is the same when it was copied or pickled, and says what it carries."""
-    with Store(PROGRAM, sessions=1) as store:
+    with Store() as store:
         store.tenant(5)
         try:
             store.begin(0, 9)
@@ -108,213 +124,6 @@ def refusals_are_values():
     return ["nothing was refused"]
 
 
-def stores_that_end():
-    """The next call and `alive` tell it, with the exit status and standard error, and so does every later call."""
-    with Store(PROGRAM, sessions=1) as store:
-        store.tenant(5)
-        os.kill(store.pid, signal.SIGKILL)
-        gone = ("the store has ended", -signal.SIGKILL, "")
-        found = differences((ended(store.usage, 0), gone), (store.alive, False), (ended(store.stat), gone), (store.close(), -signal.SIGKILL))
-        found += differences((ended(store.stat), gone))
-    with tempfile.TemporaryDirectory() as place, Store(script_of(place, "read -r line; echo out of luck >&2; exit 3"), sessions=1) as store:
-        found += differences((ended(store.usage, 0), ("the store has ended", 3, "out of luck\n")), (store.alive, False))
-    with Store(PROGRAM, sessions=1) as store:
-        store.close()
-        return found + differences((ended(store.stat), ("the store was closed", 0, "")), (store.alive, False), (store.close(), 0))
-
-
-def states_of(process):
-    """The states of the threads of a process: `T` for one that is stopped."""
-    found = set()
-    for thread in os.listdir(f"/proc/{process}/task"):
-        with open(f"/proc/{process}/task/{thread}/stat", encoding="ascii", errors="replace") as file:
-            found.add(file.read().rpartition(") ")[2][0])
-    return found
-
-
-def stores_that_are_stopped():
-    """A store whose process is stopped is killed when it is closed, though a thread waits for an answer, which raises Ended."""
-    found, before = [], store_module.SECONDS_TO_CLOSE
-    store_module.SECONDS_TO_CLOSE = 0.5
-    try:
-        for is_waiting in False, True:
-            store, raised_there = Store(PROGRAM, sessions=2), []
-            store.stat()
-            os.kill(store.pid, signal.SIGSTOP)
-            found += differences((wait_until(lambda: states_of(store.pid) == {"T"}), True))
-            waiting = threading.Thread(target=lambda: raised_there.append(raised(store.stat)), daemon=True)
-            if is_waiting:
-                waiting.start()
-                time.sleep(0.2)
-            closing = threading.Thread(target=store.close, daemon=True)
-            closing.start()
-            closing.join(SECONDS / 2)
-            found += differences((closing.is_alive(), False), (ended(store.stat), ("the store was closed", -signal.SIGKILL, "")) if not is_waiting else (0, 0))
-            if is_waiting:
-                waiting.join(SECONDS)
-            found += differences((raised_there, [Ended] * is_waiting))
-    finally:
-        store_module.SECONDS_TO_CLOSE = before
-    return found
-
-
-WRONG_ANSWERS = ["frob", "tenant", "tenant x", "refused", "refused S6 free x", "refused S6 free", "", "held 3", "tenant -1", "tenant +1", "tenant 1_0", "tenant 1\\r", "refused S11 found 5"]
-
-
-def answers_that_do_not_fit():
-    """After the first of them nothing is sent any more, whatever the program would answer."""
-    found = []
-    for answer in WRONG_ANSWERS:
-        with tempfile.TemporaryDirectory() as place:
-            text = f"read -r line; echo '{answer}'; while read -r line; do echo $line >> {place}/lines; echo tenant 0; done"
-            with Store(script_of(place, text), sessions=1) as store:
-                found += differences((raised(store.tenant), Ended), (raised(store.tenant), Ended), (store.alive, False))
-            found += differences((os.path.exists(os.path.join(place, "lines")), False))
-    return found
-
-
-class Interrupted(Exception):
-    """What a signal's handler raises."""
-
-
-def interrupt(*_):
-    raise Interrupted
-
-
-def commands_that_are_broken_off():
-    """Where an exception comes in the middle of a command, the store can't be used any more, and ends."""
-    interrupting = "read -r line; kill -ALRM $PPID; exec sleep 60"
-    with tempfile.TemporaryDirectory() as place, Store(script_of(place, interrupting), sessions=1) as store:
-        before = signal.signal(signal.SIGALRM, interrupt)
-        try:
-            found = differences((raised(store.put, 0, 0, bytes(1 << 24)), Interrupted))
-        finally:
-            signal.signal(signal.SIGALRM, before)
-        told = ended(store.stat)
-        return found + differences((told, ("a command was interrupted by Interrupted", None, "")), (store.alive, False), (store.close(), -signal.SIGKILL))
-
-
-def numbers_that_are_others():
-    """A store with one session knows the number of its next upload: the answer to `begin` has no other one."""
-    found = []
-    for call in (lambda store: store.file(0, b""), lambda store: store.file_all(0, [b""])):
-        with tempfile.TemporaryDirectory() as place:
-            text = f"read -r line; read -r line; echo upload 1; echo new {EMPTY} 0; cat"
-            with Store(script_of(place, text), sessions=1) as store:
-                told = ended(call, store)
-                found += differences((told, ("the store's answer makes no sense: upload 1 instead of 0", None, "")), (store.alive, False))
-    return found
-
-
-def commands_that_are_interrupted_twice():
-    """If a second interrupt comes before the first one is noted, the store isn't used again, either: an answer is unread."""
-    with tempfile.TemporaryDirectory() as place, Store(script_of(place, "read -r line; echo 'tenant x'; cat"), sessions=1) as store:
-        store._note = interrupt
-        found = differences((raised(store.tenant), Interrupted))
-        del store._note
-        return found + differences((ended(store.stat), ("a command was interrupted", None, "")), (store.alive, False))
-
-
-def interrupts_at_any_moment():
-    """No interrupt keeps a session. Older versions of Python look for signals before nearly each step, also of a finally: there it is only rarer."""
-    if sys.version_info < (3, 11):
-        return []
-    found, before = [], signal.signal(signal.SIGALRM, interrupt)
-    try:
-        for number in range(500):
-            with Store(PROGRAM, sessions=1) as store:
-                # one that is none ends before there is an alarm
-                store.stat()
-                calls = interrupted_calls(store.stat, 0.002 + number % 100 / 20000)
-                kept = 1 - store._free.qsize()
-                store._give_back(store._all[:kept])
-                found += differences((kept, 0)) if calls else []
-    finally:
-        signal.signal(signal.SIGALRM, before)
-    return found[:1]
-
-
-def interrupts_of_a_look():
-    """No interrupt of `alive`, which takes all sessions that are free, keeps one."""
-    if sys.version_info < (3, 11):
-        return []
-    found, before = [], signal.signal(signal.SIGALRM, interrupt)
-    try:
-        with socket.create_server(("127.0.0.1", 0)) as listener:
-            with Client(host="127.0.0.1", port=listener.getsockname()[1], sessions=3) as store:
-                for number in range(1000):
-                    interrupted_calls(lambda: store.alive, 0.0001 + number / 10000000)
-                    kept = 3 - store._free.qsize()
-                    store._give_back(store._all[:kept])
-                    found += differences((kept, 0))
-    finally:
-        signal.signal(signal.SIGALRM, before)
-    return found[:1]
-
-
-def interrupts_of_a_move():
-    """No interrupt of `fetch_to` changes the mode of its descriptor."""
-    if sys.version_info < (3, 11):
-        return []
-    found, before, sink = [], signal.signal(signal.SIGALRM, interrupt), os.open(os.devnull, os.O_WRONLY)
-    try:
-        with Store(PROGRAM, sessions=1) as store:
-            store.stat()
-            store._in_turn = lambda _: (PART_LEN, b"", None)
-            for number in range(1000):
-                interrupted_calls(lambda: store.fetch_to(0, ABC, sink), 0.0001 + number / 10000000)
-                found += differences((os.get_blocking(sink), True))
-            del store._in_turn
-    finally:
-        signal.signal(signal.SIGALRM, before)
-        os.close(sink)
-    return found[:1]
-
-
-def interrupted_calls(call, seconds):
-    """Calls a function until it is interrupted, and returns how often."""
-    calls = 0
-    try:
-        signal.setitimer(signal.ITIMER_REAL, seconds)
-        while True:
-            call()
-            calls += 1
-    except Interrupted:
-        return calls
-    finally:
-        # if the call has raised something else, the alarm would end the tests once it has no handler
-        signal.setitimer(signal.ITIMER_REAL, 0)
-
-
-def give_up(*_):
-    raise TimeoutError("it takes too long")
-
-
-def commands_that_take_too_long():
-    """A handler may raise an OSError, as TimeoutError: it reaches the caller, and isn't taken for the end of the store."""
-    found, sink = [], os.open(os.devnull, os.O_WRONLY)
-    cases = (
-        ("", lambda store: store.stat()), ("bytes 5", lambda store: store.stat()), ("", lambda store: store.put(0, 0, bytes(1 << 24))),
-        (r"bytes 5\nabc", lambda store: store.fetch(0, ABC)), (r"bytes 5\nabc", lambda store: store.fetch_into(0, ABC, bytearray(5))),
-        ("bytes 5", lambda store: store.fetch_to(0, ABC, sink)), (r"bytes 5\nabc", lambda store: store.fetch_to(0, ABC, sink)),
-    )
-    for answer, call in cases:
-        text = f"read -r line; printf '{answer}'; sleep 0.3; kill -ALRM $PPID; exec sleep 60"
-        with tempfile.TemporaryDirectory() as place, Store(script_of(place, text), sessions=1) as store:
-            found += differences((raised_by_alarm(call, store), TimeoutError), (ended(store.stat), ("a command was interrupted by TimeoutError", None, "")))
-    os.close(sink)
-    return found
-
-
-def raised_by_alarm(call, store):
-    """The type of what a call raises, when a signal comes whose handler gives up."""
-    before = signal.signal(signal.SIGALRM, give_up)
-    try:
-        return raised(call, store)
-    finally:
-        signal.signal(signal.SIGALRM, before)
-
-
 def refusals_of_the_page():
     """The module's table has the refusals that docs/FORMATS.md says of a session's lines."""
     with open(os.path.join(TOP, "docs", "FORMATS.md"), encoding="utf-8") as page:
@@ -322,22 +131,25 @@ def refusals_of_the_page():
     return differences((set(REFUSALS), told - {"S8"}))
 
 
-def by_threads():
-    with Store(PROGRAM, sessions=1) as store:
+def buffers_of_all_kinds():
+    """Content is taken from where it is, whatever has it: its bytes and its address are the same."""
+    with Store() as store, mmap.mmap(-1, 3 * PART_LEN) as mapped:
         tenant, found = store.tenant(), []
-
-        def work(number):
-            content = bytes([number]) * 300000
-            for _ in range(20):
-                address = file_of_parts(store, tenant, content)
-                found.extend(differences((b"".join(store.ranges(tenant, address)), content)))
-
-        workers = [threading.Thread(target=work, args=(number,)) for number in range(8)]
-        for worker in workers:
-            worker.start()
-        for worker in workers:
-            worker.join()
-        return found + differences((store.stat(), Totals(8, 2400000, 0, 0, 0)))
+        for size in SIZES:
+            content = os.urandom(size)
+            mapped[5 : 5 + size], address = content, store.file(tenant, content).address
+            around = b"before" + content + b"after"
+            for kind in bytearray(content), memoryview(content), memoryview(around)[6 : 6 + size], memoryview(bytearray(around))[6 : 6 + size], memoryview(mapped)[5 : 5 + size]:
+                found += differences((store.file(tenant, kind), Filed(False, address, size)), (store.upload(kind, tenant, address=address).address, address))
+                if isinstance(kind, memoryview):
+                    kind.release()
+            room = bytearray(size + 7)
+            found += differences((store.fetch(tenant, address) == content, True), (store.fetch_into(tenant, address, memoryview(room)[7:]), size), (room[7:] == content, True))
+        grown = bytearray(PART_LEN)
+        store.file(tenant, grown)
+        # nothing keeps it
+        grown.append(1)
+        return found + differences((store.stat().uploads, 0))
 
 
 def file_of_parts(store, tenant, content):
@@ -347,10 +159,166 @@ def file_of_parts(store, tenant, content):
     return store.seal(upload).address
 
 
-def stores_that_are_none():
-    """One that ends at once, and one whose answers are none."""
-    found = []
-    for answer in "exit 0", "while read -r line; do echo held; done":
-        with tempfile.TemporaryDirectory() as place, Store(script_of(place, answer), sessions=1) as store, contextlib.suppress(Ended):
-            found.append(f"{answer}: {store.tenant(5)}")
+def share(store):
+    """Each of eight threads finds what the others stored, and no two have the same upload."""
+    tenant, contents = store.tenant(), [bytes([number]) * (9000 * number + 1) for number in range(8)]
+
+    def work(number):
+        found = []
+        for turn in range(20):
+            content = contents[(number + turn) % 8]
+            filed = store.file(tenant, content)
+            address = file_of_parts(store, tenant, content)
+            found += differences((filed.length, len(content)), (address, filed.address), (b"".join(store.ranges(tenant, address)) == content, True))
+            found += differences((refusal(store.file, tenant, content, "0" * 64), ("S11", address)), (refusal(store.begin, 1, 5), ("S1", None)))
+        return found
+
+    found = [fault for faults in in_threads(work, 8) for fault in faults]
+    entries = store.entries()
+    found += differences((store.stat(), Totals(8, sum(map(len, contents)), 0, 0, 0)), (len([line for line in entries if line.startswith("seal")]), 320))
+    found += differences((store.entries(5, 3), entries[5:8]), (store.entries(0, 0), []), (store.entries(len(entries) - 1, 5), entries[-1:]))
+    return found[:5]
+
+
+def by_threads():
+    with Store() as store, client_of_a_server(sessions=4) as client:
+        return share(store) + share(client)
+
+
+def closed_stores():
+    """A closed store is said to be closed, by each command, and what an object gave stays; threads that use it meanwhile get nothing else."""
+    found, content = [], os.urandom(SMALL_LEN + 1)
+    calls = (
+        lambda store: store.stat(), lambda store: store.file(0, b"abc"), lambda store: store.upload(content, 0), lambda store: store.put(0, 0, content),
+        lambda store: store.fetch(0, ABC), lambda store: store.fetch_into(0, ABC, bytearray(3)), lambda store: store.begin(0, 3), lambda store: list(store.objects(0)),
+    )
+    for call in calls:
+        with Store() as store:
+            store.tenant()
+            store.file(0, b"abc")
+            store.begin(0, len(content))
+        found += differences((raised(call, store), ValueError), (store.close(), None))
+    for _ in range(20):
+        store = Store()
+        store.tenant()
+
+        def work(_, store=store):
+            while True:
+                store.fetch(0, store.upload(content, 0).address)
+
+        threading.Timer(0.02, store.close).start()
+        found += differences((set(in_threads(work, 4)), {ValueError}))
     return found
+
+
+def stores_after_a_fork():
+    """A process that was forked can't use its parent's store, and opens one of its own; the parent goes on."""
+    found = []
+    with Store() as store:
+        tenant = store.tenant()
+        for taken in False, True:
+            reading, writing = os.pipe()
+            # a thread of the parent may have the lock
+            with store._lock if taken else contextlib.nullcontext():
+                child = os.fork()
+                if child == 0:
+                    use_after_fork(store, writing)
+            os.close(writing)
+            with open(reading, "rb") as told:
+                found += differences((told.read(), b"ValueError True None"))
+            os.waitpid(child, 0)
+        return found + differences((store.upload(b"abc", tenant).address, ABC))
+
+
+def use_after_fork(store, writing):
+    """Tells what a store does in a new process, and ends that."""
+    signal.alarm(SECONDS)
+    try:
+        with Store() as own:
+            is_filed = own.file(own.tenant(), b"abc").address == ABC
+        os.write(writing, f"{raised(store.stat).__name__} {is_filed} {store.close()}".encode())
+    finally:
+        os._exit(0)
+
+
+def resident():
+    """How many bytes of memory this process has."""
+    with open("/proc/self/statm", encoding="ascii") as file:
+        return int(file.read().split()[1]) * resource.getpagesize()
+
+
+def memory_that_is_freed():
+    """Stores that are closed or dropped, objects that are read, and parts that are refused leave nothing."""
+    content, before = os.urandom(4 * PART_LEN), 0
+    gc.collect()
+    gc.disable()
+    try:
+        for turn in range(24):
+            store = Store()
+            tenant, upload = store.tenant(), store.begin(0, PART_LEN)
+            filed = store.upload(content, tenant)
+            store.fetch(tenant, filed.address)
+            refusal(store.put, upload + 5, 0, content[:PART_LEN])
+            refusal(store.put, upload, 1024, content[:PART_LEN])
+            if turn % 2:
+                store.close()
+            before = resident() if turn == 9 else before
+        return differences((resident() - before < 5 * len(content), True))
+    finally:
+        gc.enable()
+
+
+WITHOUT_MEMORY = """
+import resource
+from b3store import PART_LEN, Refused, Store
+store, content, refusals, errors = Store(), bytearray(PART_LEN), 0, 0
+tenant = store.tenant()
+before = int(open("/proc/self/statm").read().split()[0]) * 4096
+for room in range(0, 24):
+    resource.setrlimit(resource.RLIMIT_AS, (before + room * PART_LEN // 4, resource.RLIM_INFINITY))
+    for number in range(10):
+        content[:8] = (10 * room + number).to_bytes(8, "little")
+        try:
+            filed = store.file(tenant, content)
+            assert store.fetch(tenant, filed.address) == content
+        except Refused as refused:
+            assert refused.number == "S14"
+            refusals += 1
+        except MemoryError:
+            errors += 1
+    resource.setrlimit(resource.RLIMIT_AS, (resource.RLIM_INFINITY, resource.RLIM_INFINITY))
+    assert store.uploads(tenant) == [], store.uploads(tenant)
+assert store.usage(tenant).used == sum(store.list(tenant).values()) and store.usage(tenant).reserved == 0
+print(refusals > 0, errors > 0, store.stat().objects > 0)
+"""
+
+
+def stores_without_memory():
+    """What there is no memory for is refused, or raises MemoryError, and no upload is left of it."""
+    environment = {**os.environ, "PYTHONPATH": os.path.join(TOP, "python")}
+    ran = subprocess.run([sys.executable, "-c", WITHOUT_MEMORY], capture_output=True, timeout=SECONDS, env=environment)
+    return differences((ran.stderr.decode()[-300:], ""), (ran.stdout, b"True True True\n"))
+
+
+def interrupts_at_any_moment():
+    """No interrupt keeps the lock, leaves an upload open, or loses a byte. Older versions of Python look for signals before nearly each step, also of a finally:
+    there it is only rarer."""
+    if sys.version_info < (3, 11):
+        return []
+    found, small, large = [], os.urandom(1000), os.urandom(5 * PART_LEN)
+    with alarms(), Store() as store:
+        tenant = store.tenant()
+        address = store.file(tenant, large[:PART_LEN]).address
+        calls = (
+            lambda: store.file(tenant, small), lambda: store.file(tenant, large[: 1 << 16]), lambda: store.upload(large, tenant), lambda: store.stat(),
+            lambda: store.fetch(tenant, address), lambda: store.fetch(tenant, address, 5, 100), lambda: store.abort(store.begin(tenant, 7)), lambda: store.entries(0, 5),
+        )
+        for number in range(400):
+            interrupted_calls(calls[number % len(calls)], 0.0005 + number / 400000)
+            if store._lock.locked():
+                return ["the lock is kept"]
+            opened = {upload.bound for upload in store.uploads(tenant)} - {7}
+            found += differences((opened, set()))
+        held = {name: store.fetch(tenant, name) for name in store.list(tenant)}
+        found += differences((all(content in (small, large, large[: 1 << 16], large[:PART_LEN]) for content in held.values()), True))
+    return found[:1]

@@ -8,9 +8,9 @@ import random
 import tempfile
 import threading
 
-from shared import ABC, EMPTY, FOUR, PROGRAM, SECONDS, differences, raised, refusal, script_of
-from stores import Interrupted, interrupt
-from b3store import MAX_LIMIT, MAX_PART_LEN, MAX_UPLOAD_LEN, PART_LEN, AsyncStore, Ended, Filed, Held, ObjectRow, Refused, Store, Totals, Usage
+from bridge import client_of_a_server, over_both
+from shared import ABC, EMPTY, FOUR, SECONDS, Interrupted, differences, interrupt, raised, refusal
+from b3store import MAX_LIMIT, MAX_PART_LEN, MAX_UPLOAD_LEN, PART_LEN, AsyncStore, Ended, Filed, Held, ObjectRow, Refused, Totals, Usage
 from b3store.values import half_of_memory
 
 LIMIT = 1 << 30
@@ -63,9 +63,10 @@ def sources_of(content, place):
             yield mmap.mmap(whole.fileno(), 0), None
 
 
-def uploads_of_all_sources():
+@over_both
+def uploads_of_all_sources(store):
     found = []
-    with tempfile.TemporaryDirectory() as place, Store(PROGRAM, sessions=2) as store:
+    with tempfile.TemporaryDirectory() as place:
         tenant = store.tenant(LIMIT)
         for length in LENGTHS:
             content = content_of(length)
@@ -91,12 +92,13 @@ class Lying(io.BytesIO):
         return len(room) + 1
 
 
-def uploads_that_fail():
+@over_both
+def uploads_that_fail(store):
     """Each raises what is wrong, and leaves no upload and no reservation."""
     large = content_of(9 * PART_LEN)
     reading, writing = os.pipe()
     os.set_blocking(reading, False)
-    with os.fdopen(reading, "rb", buffering=0) as waiting, os.fdopen(writing, "wb"), Store(PROGRAM, sessions=1) as store:
+    with os.fdopen(reading, "rb", buffering=0) as waiting, os.fdopen(writing, "wb"):
         tenant = store.tenant(10 * PART_LEN)
         cases = (
             (OSError, Failing(large), None), (ValueError, io.BytesIO(large[:-1]), len(large)), (ValueError, Reader(large[:-1]), len(large)),
@@ -116,22 +118,22 @@ def uploads_that_fail():
         for wanted, max_len in ("F4", 1024), ("S6", 20 * PART_LEN), ("F4", PART_LEN):
             found += differences((refusal(lambda: store.upload(io.BytesIO(large), tenant, max_len=max_len))[0], wanted))
         found += differences((refusal(lambda: store.upload(Reader(b"abc"), tenant, max_len=2)), ("F4", None)))
-        found += differences((refusal(store.upload, b"abc", 7), ("S1", None)), (store.uploads(tenant), []), (store.usage(tenant).reserved, 0), (store.alive, True))
+        found += differences((refusal(store.upload, b"abc", 7), ("S1", None)), (store.uploads(tenant), []), (store.usage(tenant).reserved, 0))
         return found + differences((store.upload(io.BytesIO(large), tenant).length, len(large)), (store.upload(b"abc", tenant, address=ABC).address, ABC))
 
 
-def uploads_side_by_side():
+@over_both
+def uploads_side_by_side(store):
     """An upload whose length isn't known leaves room for others in a large tenant. In a small one, the next is refused for want of room."""
-    with Store(PROGRAM, sessions=1) as store:
-        tenant, small = store.tenant(MAX_LIMIT), store.tenant(8 * PART_LEN)
-        uploads = [store.start_upload(tenant) for _ in range(63)]
-        content = content_of(5 * PART_LEN)
-        found = differences((store.upload(Reader(content), tenant).length, len(content)), ({upload.bound for upload in store.uploads(tenant)}, {1 << 40}))
-        store.upload(Reader(content), small)
-        found += differences((refusal(store.upload, Reader(content + b"more"), small), ("S6", 3 * PART_LEN)), (store.uploads(small), []))
-        for upload in uploads:
-            upload.abort()
-        return found + differences((store.usage(small).reserved, 0), (store.usage(tenant).reserved, 0))
+    tenant, small = store.tenant(MAX_LIMIT), store.tenant(8 * PART_LEN)
+    uploads = [store.start_upload(tenant) for _ in range(63)]
+    content = content_of(5 * PART_LEN)
+    found = differences((store.upload(Reader(content), tenant).length, len(content)), ({upload.bound for upload in store.uploads(tenant)}, {1 << 40}))
+    store.upload(Reader(content), small)
+    found += differences((refusal(store.upload, Reader(content + b"more"), small), ("S6", 3 * PART_LEN)), (store.uploads(small), []))
+    for upload in uploads:
+        upload.abort()
+    return found + differences((store.usage(small).reserved, 0), (store.usage(tenant).reserved, 0))
 
 
 class OneWay(io.BytesIO):
@@ -143,35 +145,35 @@ class OneWay(io.BytesIO):
         return super().seek(offset, whence)
 
 
-def files_that_go_one_way():
+@over_both
+def files_that_go_one_way(store):
     """A file of gzip says that it can seek, also over a pipe. No byte is lost by going to its end."""
     content = os.urandom(1000) * 9000
-    with Store(PROGRAM, sessions=1) as store:
-        tenant = store.tenant(LIMIT)
-        with read_end_of_pipe(gzip.compress(content, 1)) as pipe, gzip.open(pipe) as file:
-            address = store.upload(file, tenant).address
-        found = differences((store.fetch(tenant, address) == content, True), (raised(store.upload, OneWay(content), tenant), io.UnsupportedOperation))
-        return found + differences((store.stat().objects, 1), (store.uploads(tenant), []), (store.usage(tenant).reserved, 0))
+    tenant = store.tenant(LIMIT)
+    with read_end_of_pipe(gzip.compress(content, 1)) as pipe, gzip.open(pipe) as file:
+        address = store.upload(file, tenant).address
+    found = differences((store.fetch(tenant, address) == content, True), (raised(store.upload, OneWay(content), tenant), io.UnsupportedOperation))
+    return found + differences((store.stat().objects, 1), (store.uploads(tenant), []), (store.usage(tenant).reserved, 0))
 
 
-def writes_after_a_refusal():
+@over_both
+def writes_after_a_refusal(store):
     """Once a write was refused, it isn't known which bytes the store has: the upload is aborted, and not sealed without some of them."""
-    with Store(PROGRAM, sessions=1) as store:
-        tenant = store.tenant(LIMIT)
-        upload = store.start_upload(tenant, max_len=2 * PART_LEN)
-        found = differences((upload.write(bytes(PART_LEN // 2)), PART_LEN // 2), (refusal(upload.write, bytes(3 * PART_LEN)), ("F4", None)))
-        found += differences((upload.is_open, False), (store.uploads(tenant), []), (raised(upload.write, b"a"), ValueError))
-        found += differences((refusal(upload.seal), ("S7", None)), (store.list(tenant), {}), (store.usage(tenant).reserved, 0))
+    tenant = store.tenant(LIMIT)
+    upload = store.start_upload(tenant, max_len=2 * PART_LEN)
+    found = differences((upload.write(bytes(PART_LEN // 2)), PART_LEN // 2), (refusal(upload.write, bytes(3 * PART_LEN)), ("F4", None)))
+    found += differences((upload.is_open, False), (store.uploads(tenant), []), (raised(upload.write, b"a"), ValueError))
+    found += differences((refusal(upload.seal), ("S7", None)), (store.list(tenant), {}), (store.usage(tenant).reserved, 0))
 
-        def write_on():
-            with store.start_upload(tenant, max_len=PART_LEN) as upload:
-                refusal(upload.write, bytes(2 * PART_LEN))
+    def write_on():
+        with store.start_upload(tenant, max_len=PART_LEN) as upload:
+            refusal(upload.write, bytes(2 * PART_LEN))
 
-        found += differences((refusal(write_on), ("F4", None)), (raised(write_after_an_interrupt, store, tenant), Interrupted), (store.uploads(tenant), []))
-        with store.start_upload(tenant) as upload:
-            upload.write(b"abc")
-            upload.seal()
-            return found + differences((raised(upload.write, b"d"), ValueError), (store.fetch(tenant, upload.filed.address), b"abc"))
+    found += differences((refusal(write_on), ("F4", None)), (raised(write_after_an_interrupt, store, tenant), Interrupted), (store.uploads(tenant), []))
+    with store.start_upload(tenant) as upload:
+        upload.write(b"abc")
+        upload.seal()
+        return found + differences((raised(upload.write, b"d"), ValueError), (store.fetch(tenant, upload.filed.address), b"abc"))
 
 
 def write_after_an_interrupt(store, tenant):
@@ -184,32 +186,32 @@ def write_after_an_interrupt(store, tenant):
         raised(upload.write, b"b")
 
 
-def uploads_with_blocks():
+@over_both
+def uploads_with_blocks(store):
     """An upload that is left by an exception is aborted, and sealed otherwise."""
-    with Store(PROGRAM, sessions=1) as store:
-        tenant, found = store.tenant(LIMIT), []
-        try:
-            with store.start_upload(tenant, 3) as upload:
-                upload.write(b"a")
-                raise KeyError
-        except KeyError:
-            found += differences((store.uploads(tenant), []), (upload.is_open, False), (upload.filed, None))
-        content = content_of(5 * PART_LEN + 5)
-        for step in 1000, 700001, PART_LEN, 10 * PART_LEN:
-            filed = written(store, tenant, content, step)
-            found += differences((filed.length, len(content)), (store.has(tenant, filed.address), len(content)), (store.fetch(tenant, filed.address) == content, True))
-        with store.start_upload(tenant, max_len=4096) as upload:
-            found += differences((upload.put(1024, bytes(1024)), Held(1024, 0)), (upload.put(0, bytes(1024)), Held(2048, 2048)), (upload.fix(2048), None))
-            found += differences((upload.seal().length, 2048), (store.uploads(tenant), []))
-        with store.start_upload(tenant) as upload:
-            pass
-        found += differences((upload.filed.address, EMPTY))
+    tenant, found = store.tenant(LIMIT), []
+    try:
         with store.start_upload(tenant, 3) as upload:
-            upload.abort()
-        found += differences((upload.filed, None), (store.uploads(tenant), []))
-        found += differences((refusal(lambda: seal_wrongly(store, tenant)), ("S11", ABC)), (refusal(lambda: leave_early(store, tenant)), ("S10", 0)))
-        found += differences((raised(store.start_upload, tenant, 5, 5), ValueError), (raised(upload.write, "abc"), TypeError))
-        return found + differences((store.uploads(tenant), []), (store.usage(tenant).reserved, 0), (len(store.list(tenant)), 3))
+            upload.write(b"a")
+            raise KeyError
+    except KeyError:
+        found += differences((store.uploads(tenant), []), (upload.is_open, False), (upload.filed, None))
+    content = content_of(5 * PART_LEN + 5)
+    for step in 1000, 700001, PART_LEN, 10 * PART_LEN:
+        filed = written(store, tenant, content, step)
+        found += differences((filed.length, len(content)), (store.has(tenant, filed.address), len(content)), (store.fetch(tenant, filed.address) == content, True))
+    with store.start_upload(tenant, max_len=4096) as upload:
+        found += differences((upload.put(1024, bytes(1024)), Held(1024, 0)), (upload.put(0, bytes(1024)), Held(2048, 2048)), (upload.fix(2048), None))
+        found += differences((upload.seal().length, 2048), (store.uploads(tenant), []))
+    with store.start_upload(tenant) as upload:
+        pass
+    found += differences((upload.filed.address, EMPTY))
+    with store.start_upload(tenant, 3) as upload:
+        upload.abort()
+    found += differences((upload.filed, None), (store.uploads(tenant), []))
+    found += differences((refusal(lambda: seal_wrongly(store, tenant)), ("S11", ABC)), (refusal(lambda: leave_early(store, tenant)), ("S10", 0)))
+    found += differences((raised(store.start_upload, tenant, 5, 5), ValueError), (raised(upload.write, "abc"), TypeError))
+    return found + differences((store.uploads(tenant), []), (store.usage(tenant).reserved, 0), (len(store.list(tenant)), 3))
 
 
 def written(store, tenant, content, step):
@@ -230,10 +232,11 @@ def leave_early(store, tenant):
         pass
 
 
-def slow_files():
+@over_both
+def slow_files(store):
     """A file that waits keeps no session from others."""
     reading, writing = os.pipe()
-    with os.fdopen(reading, "rb", buffering=0) as source, Store(PROGRAM, sessions=1) as store:
+    with os.fdopen(reading, "rb", buffering=0) as source:
         tenant, results = store.tenant(LIMIT), []
         thread = threading.Thread(target=lambda: results.append(store.upload(source, tenant)), daemon=True)
         thread.start()
@@ -249,83 +252,68 @@ def slow_files():
         return found + differences((len(results), 1), (results and results[0].length, len(content)))
 
 
-def files_together():
+@over_both
+def files_together(store):
     """Contents that are filed together are filed as each alone; after a refusal no upload is open, and the next one is filed."""
-    found, contents = [], [content_of(length) for length in (0, 1, 1023, 5000, 70000)]
-    for sessions in 1, 2:
-        with Store(PROGRAM, sessions=sessions) as store:
-            tenant, small = store.tenant(LIMIT), store.tenant(6000)
-            filed = store.file_all(tenant, contents * 12)
-            found += differences(([row.is_new for row in filed], [True] * 5 + [False] * 55), ([store.fetch(tenant, row.address) for row in filed], contents * 12))
-            addresses = [row.address for row in filed[:5]]
-            found += differences((refusal(store.forget_all, tenant, [addresses[0], *addresses]), ("S12", None)), (store.stat(), Totals(0, 0, 0, 0, 0)))
-            found += differences((store.file_all(tenant, []), []), (store.forget_all(tenant, []), None), (refusal(store.file_all, 5, [b"abc"]), ("S1", None)))
-            for wrong in (bytes(3000), b""), (bytes(MAX_PART_LEN + 1), b"abc"):
-                tenant = small if len(wrong[0]) == 3000 else tenant
-                refused = refusal(store.file_all, tenant, [contents[3], *wrong, b"abcd", bytes(70)])[0]
-                found += differences((refused, "S6" if tenant == small else "F6"), (store.uploads(tenant), []), (store.list(tenant)[addresses[3]], 5000))
-                store.file(tenant, b"abc")
-                found += differences((store.fetch(tenant, ABC), b"abc"))
-            found += differences((raised(store.file_all, tenant, ["abc"]), TypeError), (raised(store.forget_all, tenant, ["abc"]), ValueError))
-    return found
+    contents, tenant, small = [content_of(length) for length in (0, 1, 1023, 5000, 70000)], store.tenant(LIMIT), store.tenant(6000)
+    filed = store.file_all(tenant, contents * 12)
+    found = differences(([row.is_new for row in filed], [True] * 5 + [False] * 55), ([store.fetch(tenant, row.address) for row in filed], contents * 12))
+    addresses = [row.address for row in filed[:5]]
+    found += differences((refusal(store.forget_all, tenant, [addresses[0], *addresses]), ("S12", None)), (store.stat(), Totals(0, 0, 0, 0, 0)))
+    found += differences((store.file_all(tenant, []), []), (store.forget_all(tenant, []), None), (refusal(store.file_all, 5, [b"abc"]), ("S1", None)))
+    found += differences((refusal(store.file_all, small, [contents[3], bytes(3000), b"abcd"])[0], "S6"), (store.uploads(small), []), (store.list(small), {addresses[3]: 5000}))
+    found += differences((store.file(small, b"abc").address, ABC), (store.forget_all(small, [ABC, addresses[3]]), None))
+    large = content_of(MAX_PART_LEN + 5)
+    found += differences((store.fetch(tenant, store.file(tenant, large).address) == large, True), (refusal(store.file, tenant, large, FOUR)[0], "S11"), (store.uploads(tenant), []))
+    return found + differences((raised(store.file_all, tenant, ["abc"]), TypeError), (raised(store.forget_all, tenant, ["abc"]), ValueError))
 
 
-def objects_as_files():
-    with Store(PROGRAM, sessions=1) as store:
-        tenant, content = store.tenant(LIMIT), content_of(3 * PART_LEN + 5)
-        address, found = store.upload(content, tenant).address, []
-        for buffering in 1 << 18, 100, 0:
-            with store.open(tenant, address, buffering) as file:
-                found += differences((file.readable(), True), (file.seekable(), True), (file.writable(), False), (file.tell(), 0))
-                found += differences((file.read(10), content[:10]), (file.tell(), 10), (file.seek(-5, io.SEEK_END), len(content) - 5), (file.read(), content[-5:]))
-                found += differences((file.read(1), b""), (file.seek(1 << 50), 1 << 50), (file.read(), b""), (file.seek(7), 7), (file.seek(3, io.SEEK_CUR), 10))
-                found += differences((file.read() == content[10:], True), (raised(file.seek, -1), ValueError), (raised(file.seek, 0, 9), ValueError), (raised(file.write, b"a"), io.UnsupportedOperation))
-                found += differences((file.seek(0), 0), (b"".join(iter(lambda: file.read(100000), b"")) == content, True))
-            found += differences((raised(file.read), ValueError), (raised(file.read, 1), ValueError))
-        lines = store.upload(b"first\nsecond\n", tenant).address
-        found += differences((list(store.open(tenant, lines)), [b"first\n", b"second\n"]), (io.TextIOWrapper(store.open(tenant, lines)).read(), "first\nsecond\n"))
-        found += differences((store.open(tenant, lines, 0).size, 13), (refusal(store.open, tenant, FOUR), ("S12", None)), (raised(store.open, tenant, "4"), ValueError))
-        with store.open(tenant, lines, 0) as file:
-            store.forget(tenant, lines)
-            return found + differences((refusal(file.read, 1), ("S12", None)), (store.alive, True))
+@over_both
+def objects_as_files(store):
+    tenant, content = store.tenant(LIMIT), content_of(3 * PART_LEN + 5)
+    address, found = store.upload(content, tenant).address, []
+    for buffering in 1 << 18, 100, 0:
+        with store.open(tenant, address, buffering) as file:
+            found += differences((file.readable(), True), (file.seekable(), True), (file.writable(), False), (file.tell(), 0))
+            found += differences((file.read(10), content[:10]), (file.tell(), 10), (file.seek(-5, io.SEEK_END), len(content) - 5), (file.read(), content[-5:]))
+            found += differences((file.read(1), b""), (file.seek(1 << 50), 1 << 50), (file.read(), b""), (file.seek(7), 7), (file.seek(3, io.SEEK_CUR), 10))
+            found += differences((file.read() == content[10:], True), (raised(file.seek, -1), ValueError), (raised(file.seek, 0, 9), ValueError), (raised(file.write, b"a"), io.UnsupportedOperation))
+            found += differences((file.seek(0), 0), (b"".join(iter(lambda: file.read(100000), b"")) == content, True))
+        found += differences((raised(file.read), ValueError), (raised(file.read, 1), ValueError))
+    lines = store.upload(b"first\nsecond\n", tenant).address
+    found += differences((list(store.open(tenant, lines)), [b"first\n", b"second\n"]), (io.TextIOWrapper(store.open(tenant, lines)).read(), "first\nsecond\n"))
+    found += differences((store.open(tenant, lines, 0).size, 13), (refusal(store.open, tenant, FOUR), ("S12", None)), (raised(store.open, tenant, "4"), ValueError))
+    with store.open(tenant, lines, 0) as file:
+        store.forget(tenant, lines)
+        return found + differences((refusal(file.read, 1), ("S12", None)))
 
 
-def reads_into_buffers():
-    with Store(PROGRAM, sessions=1) as store:
-        tenant = store.tenant(LIMIT)
-        address, room = store.upload(b"abcdef", tenant).address, bytearray(b"......")
-        found = differences((store.fetch_into(tenant, address, room, 2), 4), (room, b"cdef.."), (store.fetch_into(tenant, address, memoryview(room)[4:], 6), 0))
-        found += differences((store.fetch_into(tenant, address, memoryview(room)[5:]), 1), (room, b"cdef.a"), (store.fetch_into(tenant, address, b""[:0] or bytearray()), 0))
-        return found + differences(*((raised(store.fetch_into, tenant, address, wrong), TypeError) for wrong in (b"abc", "abc", None, 5)), (store.alive, True))
+@over_both
+def reads_into_buffers(store):
+    tenant = store.tenant(LIMIT)
+    address, room = store.upload(b"abcdef", tenant).address, bytearray(b"......")
+    found = differences((store.fetch_into(tenant, address, room, 2), 4), (room, b"cdef.."), (store.fetch_into(tenant, address, memoryview(room)[4:], 6), 0))
+    found += differences((store.fetch_into(tenant, address, memoryview(room)[5:]), 1), (room, b"cdef.a"), (store.fetch_into(tenant, address, b""[:0] or bytearray()), 0))
+    return found + differences(*((raised(store.fetch_into, tenant, address, wrong), TypeError) for wrong in (b"abc", "abc", None, 5)))
 
 
-def iterates():
+@over_both
+def iterates(store):
     """Over the journal in pages, and over objects."""
-    with Store(PROGRAM, sessions=1) as store:
-        tenant = store.tenant(LIMIT)
-        addresses = [store.upload(b"%d" % number, tenant).address for number in range(25)]
-        rows, entries = list(store.objects(tenant)), store.entries()
-        found = differences((rows, [ObjectRow(address, 1 if at < 10 else 2) for at, address in enumerate(addresses)]), (dict(rows), store.list(tenant)))
-        for page_len in 1, 7, 76, 1000:
-            found += differences((list(store.journal(page_len=page_len)), entries), (list(store.journal(70, page_len)), entries[70:]))
-        found += differences((list(store.journal(1000)), []), *((raised(store.journal, 0, wrong), ValueError) for wrong in (0, -1)))
-        half = store.journal(page_len=2)
-        found += differences((next(half), entries[0]), (store.stat().objects, 25), (next(half), entries[1]))
-        return found + differences((refusal(store.objects, 5), ("S1", None)), (raised(store.objects, "0"), TypeError), (raised(store.journal, "0"), TypeError))
+    tenant = store.tenant(LIMIT)
+    addresses = [store.upload(b"%d" % number, tenant).address for number in range(25)]
+    rows, entries = list(store.objects(tenant)), store.entries()
+    found = differences((rows, [ObjectRow(address, 1 if at < 10 else 2) for at, address in enumerate(addresses)]), (dict(rows), store.list(tenant)))
+    for page_len in 1, 7, 76, 1000:
+        found += differences((list(store.journal(page_len=page_len)), entries), (list(store.journal(70, page_len)), entries[70:]))
+    found += differences((list(store.journal(1000)), []), *((raised(store.journal, 0, wrong), ValueError) for wrong in (0, -1)))
+    half = store.journal(page_len=2)
+    found += differences((next(half), entries[0]), (store.stat().objects, 25), (next(half), entries[1]))
+    return found + differences((refusal(store.objects, 5), ("S1", None)), (raised(store.objects, "0"), TypeError), (raised(store.journal, "0"), TypeError))
 
 
-def answers_that_are_too_long():
-    """More bytes than were asked for, or fewer than were promised, are no answer."""
-    found = []
-    calls = (lambda store: store.fetch(0, ABC, 0, 5), lambda store: store.fetch_into(0, ABC, bytearray(5)))
-    for text in "bytes 6\\nabcdef", "bytes -1\\nabc", "bytes 99999999999999999999999\\nabc", "bytes\\n", "bytes 5\\nabc":
-        for call in calls:
-            with tempfile.TemporaryDirectory() as place, Store(script_of(place, f"read -r line; printf '{text}'"), sessions=1) as store:
-                found += differences((raised(call, store), Ended), (raised(store.stat), Ended), (store.alive, False))
-    return found
-
-
-def by_asyncio():
+@over_both
+def by_asyncio(given):
     async def work(store):
         tenant = await store.tenant(LIMIT)
         contents = [content_of(length) for length in LENGTHS]
@@ -346,17 +334,17 @@ def by_asyncio():
         return [*found, "nothing is refused"]
 
     async def run():
-        async with AsyncStore(Store(PROGRAM, sessions=4)) as store:
+        async with AsyncStore(given) as store:
             found = await work(store)
         await store.close()
-        return found + differences((store.store.alive, False), (raised(AsyncStore, PROGRAM), TypeError))
+        return found + differences((raised(given.stat) in (ValueError, Ended), True), (raised(AsyncStore, "b3store"), TypeError))
 
     return asyncio.run(run())
 
 
 def scales():
     """A thread's uploads do not wait for another thread's: with two sessions, one that is stuck does not stop the other."""
-    with Store(PROGRAM, sessions=2) as store:
+    with client_of_a_server(sessions=2) as store:
         tenant = store.tenant(LIMIT)
         taken = store._free.get()
         found = differences((store.upload(b"abc", tenant).address, ABC), (store.stat(), Totals(1, 3, 0, 0, 0)), (store.usage(tenant), Usage(3, 0, LIMIT)))

@@ -60,10 +60,8 @@ CASES = (
     ("a cache that gives disk back while it writes", cache_disk.frees_as_much_as_it_writes),
     ("a cache that ends while it begins", cache_disk.ends_while_it_loads),
     ("a cache that stops", cache_disk.stops_at_once),
-    ("a cache with a store that is stopped", cache_disk.ends_with_a_stopped_store),
     ("a cache that stops while it is used", cache_disk.stops_while_it_is_used),
     ("a cache that is interrupted", cache_disk.keeps_all_at_an_interrupt),
-    ("a cache that is ended with its store", cache_disk.tells_what_a_dead_store_had),
     ("a cache that can't read its files", cache_disk.keeps_what_it_cannot_read),
     ("a cache with an older folder", cache_folders.begins_from_an_older_folder),
     ("a cache without its folder", cache_folders.ends_without_its_folder),
@@ -79,7 +77,6 @@ CASES = (
     ("a cache that can't write a new log", cache_disk.lives_without_a_new_log),
     ("a cache that begins without keys", cache_folders.begins_without_keys),
     ("a cache in a folder with another new log", cache_folders.leaves_another_new_log),
-    ("a cache's keys that were removed", cache_disk.keeps_a_removal),
     ("a cache's keys at any line of its log", cache_disk.has_no_more_keys_at_any_line),
     ("a cache that begins with a lower limit", cache_disk.begins_with_the_last_keys),
     ("a cache that begins with other users", cache_disk.keeps_what_it_cannot_begin_with),
@@ -117,13 +114,12 @@ CASES = (
     ("a cache that looks for signals", caches.looks_for_signals),
     ("a cache with wrong words", caches.refuses_wrong_words),
     ("a cache's keys of any bytes", caches.keys_of_any_bytes),
-    ("a cache whose store ends", caches.ends_with_its_store),
 )
 NEED_MORE = (("nginx", caches.parts_the_keys), ("nginx", caches.finds_keys_again), ("ccache", caches.compiles_twice))
 
 
 def cases():
-    yield from package.cases()
+    yield from package.CASES
     yield from CASES
     for name, case in NEED_MORE:
         if shutil.which(name) is None:

@@ -13,14 +13,14 @@ import sys
 import tempfile
 import time
 
-from shared import ABC, EMPTY, PROGRAM, SECONDS, TOP, differences, raised, readable_by_others, script_of
+from shared import ABC, EMPTY, SECONDS, TOP, differences, raised, readable_by_others
 from b3store import Store
 import backup_pieces
 from backup import opened
 from backup_repository import Repository
 
 
-BACKUP = [sys.executable, os.path.join(TOP, "examples", "backup.py"), "--program", PROGRAM]
+BACKUP = [sys.executable, os.path.join(TOP, "examples", "backup.py")]
 
 
 def backup(*words):
@@ -167,7 +167,7 @@ def refuses_wrong_words():
             (["save", folder, file], 1, file), (["save", file, repository], 1, file), (["save", place + "/none", repository], 1, place + "/none"),
             (["check", file], 1, file), (["check", place + "/none"], 1, place + "/none"), (["restore", place + "/none", ABC, folder], 1, place + "/none"),
             (["restore", repository, "zz", folder], 2, "'zz'"), (["--memory", "x", "check", folder], 2, "'x'"), (["--memory", "5", "check", folder], 2, "'5'"),
-            (["--program", "/no/program", "check", folder], 1, "/no/program"), (["--program", "true", "check", folder], 3, "the store has ended"), (["save"], 2, "FOLDER"),
+            (["save"], 2, "FOLDER"),
             (["save", folder, ""], 2, "REPOSITORY: a path must not be empty"),
         )
         found = []
@@ -182,7 +182,7 @@ def refuses_wrong_words():
 def made_backup(place, *lines):
     """A repository with a backup of these lines, in which `abc` is the address of an object, and its address."""
     repository, addresses = os.path.join(place, "repository"), []
-    with Store(PROGRAM, sessions=1) as store:
+    with Store() as store:
         kept = Repository(repository, store, 1 << 23)
         kept.make()
         kept.keep(b"abc", addresses)
@@ -296,29 +296,29 @@ def links_to_its_own_files():
             return found + differences((file.read(), b"own"))
 
 
-ENDING_STORE = f"""import sys; sys.path[:0] = {[os.path.join(TOP, name) for name in ("examples", "python")]!r}
-import backup, backup_repository, b3store
+FAILING_READ = f"""import sys; sys.path[:0] = {[os.path.join(TOP, name) for name in ("examples", "python")]!r}
+import backup, backup_repository
 read, reads = backup_repository.Repository.read, []
 def read_some(self, address):
     reads.append(address)
     if len(reads) == 5:
-        raise b3store.Ended("the store has ended")
+        raise MemoryError
     return read(self, address)
 backup_repository.Repository.read = read_some
 sys.exit(backup.main())"""
 
 
 def leaves_no_part_of_a_file():
-    """If the store ends in the middle of a file, the file is not left there in part."""
+    """If memory ends in the middle of a file, the file is not left there in part."""
     with tempfile.TemporaryDirectory() as place:
         folder, repository, restored = (os.path.join(place, name) for name in ("folder", "repository", "restored"))
         os.mkdir(folder)
         with open(os.path.join(folder, "large"), "wb") as file:
             file.write(random.Random(1).randbytes(4000000))
         address = backup("save", folder, repository)[1][-1].split()[1]
-        words = [sys.executable, "-c", ENDING_STORE, "--program", PROGRAM, "restore", repository, address, restored]
+        words = [sys.executable, "-c", FAILING_READ, "restore", repository, address, restored]
         run = subprocess.run(words, capture_output=True, timeout=SECONDS)
-        found = differences((run.returncode, 3), (run.stderr, b"backup: the store has ended\n"), (os.listdir(restored), []))
+        found = differences((run.returncode, 1), (run.stderr, b"backup: out of memory\n"), (os.listdir(restored), []))
         return found + differences((backup("restore", repository, address, restored), (0, [])))
 
 
@@ -398,6 +398,12 @@ def prints_all_names():
         return found
 
 
+WAITING = f"""import sys; sys.path[:0] = {[os.path.join(TOP, name) for name in ("examples", "python")]!r}
+import time, b3store, backup
+b3store.Store.tenant = lambda *_: (open("begun", "w").close(), time.sleep(60))
+sys.exit(backup.main())"""
+
+
 def ends_with_a_sentence():
     """Output that can't be written, and an interrupt, are reported in one line."""
     with tempfile.TemporaryDirectory() as place:
@@ -408,8 +414,7 @@ def ends_with_a_sentence():
             for words in ["check", repository], ["--help"]:
                 run = subprocess.run(["sh", "-c", f'"$@" {output}', "sh", *BACKUP, *words], stderr=subprocess.PIPE, timeout=SECONDS)
                 found += differences((run.returncode, 1), (run.stderr.decode(), f"backup: {text}\n"))
-        words = [*BACKUP[:-1], script_of(place, "touch begun; exec sleep 60"), "check", repository]
-        with subprocess.Popen(words, cwd=place, stdout=subprocess.PIPE, stderr=subprocess.PIPE) as waiting:
+        with subprocess.Popen([sys.executable, "-c", WAITING, "check", repository], cwd=place, stdout=subprocess.PIPE, stderr=subprocess.PIPE) as waiting:
             while not os.path.exists(os.path.join(place, "begun")):
                 time.sleep(0.02)
             time.sleep(0.5)

@@ -14,10 +14,9 @@ import threading
 import time
 from unittest import mock
 
-from shared import ABC, FOUR, PROGRAM, SECONDS, TOP, differences, readable_by_others
-from servers import SERVER, USERS, Cache, ask, children, wait_until
+from shared import ABC, FOUR, SECONDS, TOP, differences, readable_by_others
+from servers import SERVER, USERS, Cache, ask, wait_until
 import cache_files
-from b3store import Ended
 from b3store.files import checked_line
 from cache_stores import Entry, User
 
@@ -302,49 +301,6 @@ def keeps_all_at_an_interrupt():
             return found + differences((cache.ask("GET", "/large") == (200, large), True), (cache.ask("GET", "/small"), (200, b"abc")))
 
 
-def tells_what_a_dead_store_had():
-    """If a signal ends the store too, what it alone had is lost, which is reported; a key keeps the content that it had before."""
-    with tempfile.TemporaryDirectory() as place:
-        folder, large = os.path.join(place, "cache"), b"large" * 600000
-
-        def end_both(process):
-            os.kill(children(process)[0], signal.SIGKILL)
-            process.send_signal(signal.SIGTERM)
-
-        with Cache(folder) as cache:
-            found = differences((cache.ask("PUT", "/k", b"abc")[0], 201), (wait_until(lambda: len(texts_of_log(folder)) == 2), True))
-            found += differences((cache.ask("PUT", "/k", large)[0], 201))
-            told = cache.stop(end_both)
-            found += differences((told, ("", "cache_server: the store has ended; its exit status is -9\n")), (cache.process.returncode, 3))
-        # on a slow machine the large content may have been written before
-        wanted = large if len(texts_of_log(folder)) == 4 else b"abc"
-        with Cache(folder) as cache:
-            return found + differences((cache.ask("GET", "/k") == (200, wanted), True))
-
-
-def ends_with_a_stopped_store():
-    """A store that is stopped is killed some time after a signal, which is reported, whether the server asks it or only waits for its end."""
-    found = []
-    for words in [], ["--journal-limit", "0"]:
-        with tempfile.TemporaryDirectory() as place, Cache(os.path.join(place, "cache"), words=words, server=["-c", IMPATIENT]) as cache:
-            found += differences((cache.ask("PUT", "/k", b"abc")[0], 201), (wait_until(lambda: len(texts_of_log(cache.folder)) == 2), True))
-            store = children(cache.process)[0]
-            os.kill(store, signal.SIGSTOP)
-            try:
-                err = cache.stop()[1].splitlines()
-            finally:
-                with contextlib.suppress(ProcessLookupError):
-                    os.kill(store, signal.SIGCONT)
-            found += differences((err[:1], ["cache_server: the store is killed, as it has not ended 1 s after the signal"]), (cache.process.returncode, 3))
-    return found
-
-
-IMPATIENT = f"""import sys; sys.path[:0] = {[os.path.join(TOP, name) for name in ("examples", "python")]!r}
-import cache_server
-cache_server.SECONDS_TO_END = 1
-sys.exit(cache_server.main())"""
-
-
 def stops_while_it_is_used():
     """A signal ends it well, whatever its clients do meanwhile."""
     with tempfile.TemporaryDirectory() as place:
@@ -536,7 +492,7 @@ def ends_while_it_loads():
         with Cache(folder) as cache:
             found = differences(*((cache.ask("PUT", f"/{number}", b"%d" % number)[0], 201) for number in range(20)))
         before = contents_of(folder)
-        words = [sys.executable, "-c", SIGNALLED, folder, "--port", "0", "--program", PROGRAM]
+        words = [sys.executable, "-c", SIGNALLED, folder, "--port", "0"]
         run = subprocess.run(words, capture_output=True, timeout=SECONDS, start_new_session=True)
         found += differences((run.returncode, 0), (run.stdout + run.stderr, b""), (contents_of(folder) == before, True))
         with Cache(folder) as cache:
@@ -620,28 +576,6 @@ def lives_without_descriptors():
         return found
 
 
-def keeps_a_removal():
-    """A key that was removed and then written is gone if the store has ended with its content: what it led to before doesn't come back."""
-    with tempfile.TemporaryDirectory() as place:
-        files = cache_files.Files(place)
-        user, entry = User("ann", None, 1000), Entry(None, ABC, 3)
-
-        def has_ended(*_):
-            raise Ended("the store has ended")
-
-        files.append_held = has_ended
-        found = []
-        for batch, wanted in (
-            ([(user, "/k", entry, None)], []),
-            ([(user, "/k", None, None), (user, "/k", entry, None)], ["drop ann /k"]),
-            ([(user, "/k", entry, None), (user, "/k", None, None)], ["drop ann /k"]),
-            ([(user, "/j", None, None), (user, "/k", entry, None)], ["drop ann /j"]),
-        ):
-            texts = [text for change in cache_files.last_changes(batch) for text in files.texts_of(None, *change)]
-            found += differences((texts, wanted))
-        return found
-
-
 def has_no_more_keys_at_any_line():
     """If some keys are evicted for others and stored again before that is written, a log that ends within these lines has no more keys than there were, in
     their order."""
@@ -677,7 +611,7 @@ def deletes_what_was_left_out():
 
 def ends_where_nothing_can_be_written():
     with tempfile.TemporaryDirectory() as place:
-        words = [sys.executable, SERVER, os.path.join(place, "cache"), "--port", "0", "--program", PROGRAM]
+        words = [sys.executable, SERVER, os.path.join(place, "cache"), "--port", "0"]
         words = ["bash", "-c", 'ulimit -f 1000; exec "$@"', "bash", *words]
         with subprocess.Popen(words, stdout=subprocess.PIPE, stderr=subprocess.PIPE) as server:
             port = int(server.stdout.readline().decode().split("port ")[1].split(",")[0])

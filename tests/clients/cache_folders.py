@@ -13,7 +13,7 @@ import time
 from unittest import mock
 
 from cache_disk import begun_files, contents_of, places_of, texts_of_log
-from shared import ABC, EMPTY, FOUR, PROGRAM, SECONDS, differences
+from shared import ABC, EMPTY, FOUR, SECONDS, differences
 from servers import SERVER, Cache, wait_until
 import cache_files
 from b3store.files import checked_line
@@ -29,7 +29,7 @@ def begins_beside_a_pipe():
         segment = os.path.join(folder, places_of(folder)[ABC][0])
         os.rename(segment, segment + ".aside")
         os.mkfifo(segment)
-        words = [sys.executable, SERVER, folder, "--port", "0", "--program", PROGRAM]
+        words = [sys.executable, SERVER, folder, "--port", "0"]
         with subprocess.Popen(words, stdout=subprocess.PIPE, stderr=subprocess.PIPE, start_new_session=True) as server:
             has_begun = bool(select.select([server.stdout], [], [], SECONDS)[0])
             server.send_signal(signal.SIGTERM if has_begun else signal.SIGKILL)
@@ -41,7 +41,7 @@ def begins_beside_a_pipe():
 def refused_start(folder):
     """What a start that is refused reports, and with which status, if it changes nothing."""
     before = contents_of(folder)
-    run = subprocess.run([sys.executable, SERVER, folder, "--port", "0", "--program", PROGRAM], capture_output=True, timeout=SECONDS)
+    run = subprocess.run([sys.executable, SERVER, folder, "--port", "0"], capture_output=True, timeout=SECONDS)
     return run.returncode, run.stdout + run.stderr if contents_of(folder) == before else "the folder was changed"
 
 

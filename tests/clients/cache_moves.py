@@ -9,16 +9,17 @@ import signal
 import tempfile
 import threading
 import time
+from unittest import mock
 
-from shared import PROGRAM, SECONDS, TOP, differences, raised
-from b3store import Ended, Refused, Store
+from shared import SECONDS, TOP, differences, raised
+from b3store import Refused, Store
 from cache_files import Files
 from cache_metrics import Metrics
 from cache_stores import Cache as Stores
 from cache_stores import User
 from cache_disk import killed_lives, texts_of_log
 from caches import begin_to_read
-from servers import USERS, Cache, SlowPut, ask, ask_without_store, children, metrics, wait_until
+from servers import USERS, Cache, SlowPut, ask, metrics, wait_until
 
 CHUNKED = {"Transfer-Encoding": "chunked"}
 PART = 1 << 20
@@ -44,21 +45,20 @@ def reports_its_counts():
         # the journal: two tenants, three entries for each small object, also for the one in a chunk, and one for the eviction; a refused body begins no upload,
         # and is not read if the path is no key
         given.update(received_bytes_total=1000 + 500 + 500 + 3001 + 1600 + 7, sent_bytes_total=1000 + 500 + 10, hits_total=4, misses_total=2, evictions_total=1)
-        given.update(moves_total=0, keys=3, objects=3, held_bytes=1000 + 1600 + 7, journal_entries=2 + 3 * 3 + 1 + 3 + 3)
+        given.update(moves_total=0, stores=1, keys=3, objects=3, held_bytes=1000 + 1600 + 7, journal_entries=2 + 3 * 3 + 1 + 3 + 3)
         found += differences((counts, given))
         scraped = metrics(cache)
         return found + differences((scraped['requests_total{method="GET",status="200"}'], 3), (scraped["sent_bytes_total"] > counts["sent_bytes_total"], True))
 
 
 def reports_its_health():
-    """Without a token; and 503 once the store has ended."""
+    """Without a token."""
     with tempfile.TemporaryDirectory() as place:
         folder = os.path.join(place, "cache")
         with Cache(folder, USERS) as cache:
             found = differences((cache.ask("GET", "/healthz"), (200, b"ok\n")), (cache.ask("HEAD", "/healthz"), (200, b"")), (cache.ask("HEAD", "/metrics"), (200, b"")))
             found += differences((cache.ask("PUT", "/healthz", b"abc", "token-a")[0], 405), (cache.ask("GET", "/metrics")[0], 200), (cache.ask("GET", "/healthz/")[0], 401))
-        cache, answer = ask_without_store(lambda: Cache(folder, USERS), "GET", "/healthz")
-        return found + differences((answer and answer[0], 503), (cache.process.returncode, 3))
+        return found
 
 
 class Client(threading.Thread):
@@ -118,7 +118,7 @@ def moves_while_it_is_used():
             counts = metrics(cache)
             live = {content for content in contents.values() if content is not None}
             found += differences((counts["keys"], sum(content is not None for content in contents.values())))
-            if wait_until(lambda: len(children(cache.process)) == 1):
+            if wait_until(lambda: metrics(cache)["stores"] == 1):
                 counts = metrics(cache)
                 found += differences((counts["objects"], len(live)), (counts["held_bytes"], sum(map(len, live))))
             else:
@@ -141,7 +141,7 @@ def fill_journal(cache, count):
     """Changes a key until the journal is longer than its limit, and waits for the move to begin."""
     for number in range(count):
         ask(cache.port, "PUT", "/filler", b"%d" % number)
-    return wait_until(lambda: len(children(cache.process)) == 2)
+    return wait_until(lambda: metrics(cache)["stores"] == 2)
 
 
 def ends_requests_on_the_old_store():
@@ -158,7 +158,7 @@ def ends_requests_on_the_old_store():
             found += differences((wait_until(lambda: metrics(cache)["journal_entries"] == before + 5), True))
             found += [] if fill_journal(cache, 120) else ["no move begins"]
             time.sleep(1)
-            found += differences((len(children(cache.process)), 2), (cache.ask("GET", "/small"), (200, b"abc")), (cache.ask("GET", "/k")[1] == large, True))
+            found += differences((metrics(cache)["stores"], 2), (cache.ask("GET", "/small"), (200, b"abc")), (cache.ask("GET", "/k")[1] == large, True))
             free = 60000000 - len(large) - len(b"abc") - len(b"119") - len(content) - PART
             found += differences((cache.ask("PUT", "/rest", bytes(free + 1))[0], 507), (cache.ask("PUT", "/rest", bytes(free))[0], 201), (cache.ask("DELETE", "/rest")[0], 204))
             found += differences((cache.ask("DELETE", "/k")[0], 204))
@@ -166,8 +166,8 @@ def ends_requests_on_the_old_store():
                 read += b"".join(iter(lambda: connection.recv(1 << 20), b""))
             found += [] if read == large else [f"{len(read)} bytes arrive"]
             time.sleep(0.5)
-            found += differences((len(children(cache.process)), 2), (fixed.end(), 201), (grown.end(), 201))
-            found += differences((wait_until(lambda: len(children(cache.process)) == 1), True), (cache.ask("GET", "/fixed")[1] == content, True))
+            found += differences((metrics(cache)["stores"], 2), (fixed.end(), 201), (grown.end(), 201))
+            found += differences((wait_until(lambda: metrics(cache)["stores"] == 1), True), (cache.ask("GET", "/fixed")[1] == content, True))
             found += differences((cache.ask("GET", "/grown")[1] == content[::-1], True), (metrics(cache)["moves_total"], 1), (metrics(cache)["objects"], 4))
             found += differences((cache.ask("PUT", "/k", large)[0], 201))
             return found + killed_with_two_stores(cache, folder, {"/k": large, "/small": b"abc", "/fixed": content, "/grown": content[::-1]})
@@ -232,7 +232,7 @@ def grants_the_quota_alone_while_it_copies():
     """At each moment of a move, also in a copy, a user can store as many bytes as are free of the quota, and no more. An object that is dropped while it is
     copied is free."""
     user, found = User("all", None, 4000000), []
-    cache = Stores(lambda: Store(PROGRAM, sessions=2), [user], 1 << 30, evicts=False)
+    cache = Stores(Store, [user], 1 << 30, evicts=False)
     contents = {"/large": os.urandom(2500000), "/dropped": os.urandom(1300000), **{f"/{key}": bytes([key]) * 9000 for key in range(20)}}
     for key, content in contents.items():
         cache.put(user, key, len(content), [content])
@@ -258,7 +258,7 @@ def grants_the_quota_alone_while_it_copies():
         with cache.reading(user, key) as entry:
             found += differences((b"".join(cache.pieces(user, entry, 0, entry.length)) == content, True))
     usage = cache.backend.store.usage(cache.backend.tenants[user])
-    cache.close_stores()
+    cache.backend.store.close()
     return found + differences((usage, (2500000 + 20 * 9000, 0, 4000000)))
 
 
@@ -281,7 +281,7 @@ def moves_where_nobody_reads():
             for stream in cache.process.stdout, cache.process.stderr:
                 stream.close()
             found = differences(*((ask(cache.port, "PUT", f"/{number}", b"%d" % number)[0], 201) for number in range(60)))
-            found += differences((wait_until(lambda: metrics(cache)["moves_total"] == 1), True), (wait_until(lambda: len(children(cache.process)) == 1), True))
+            found += differences((wait_until(lambda: metrics(cache)["moves_total"] == 1), True), (metrics(cache)["stores"], 1))
             cache.process.send_signal(signal.SIGTERM)
             found += differences((cache.process.wait(SECONDS), 0))
             cache.told = "", ""
@@ -290,24 +290,24 @@ def moves_where_nobody_reads():
 
 
 def tells_why_no_store_starts():
-    """If no second store can be started, the first one goes on, and the reason is reported in the words of all other reports."""
+    """If no second store can be opened, the first one goes on, and the reason is reported in the words of all other reports."""
     user, found = User("all", None, 1 << 30), []
-    cache = Stores(lambda: Store(PROGRAM, sessions=2), [user], 1 << 30)
-    for start, told in (lambda: Store("/no/program"), "/no/program: no such file or directory"), (lambda: Store("true"), "the store has ended; its exit status is 0"):
-        cache.start = start
+    cache = Stores(Store, [user], 1 << 30)
+    for fault, told in (OSError(2, "No such file or directory", "lib"), "lib: no such file or directory"), (Refused("S14"), "S14: out of memory"):
+        cache.start = mock.Mock(side_effect=fault)
         with contextlib.redirect_stderr(io.StringIO()) as reported:
             cache.try_to_move()
-        found += differences((reported.getvalue(), f"cache_server: cannot start a second store, so the journal grows: {told}\n"))
+        found += differences((reported.getvalue(), f"cache_server: cannot open a second store, so the journal grows: {told}\n"))
         cache.put(user, "/a", 3, [b"abc"])
     found += differences((cache.old, None), (len(user.keys), 1))
-    cache.close_stores()
+    cache.backend.store.close()
     return found
 
 
 def counts_while_content_moves():
     """The metrics are given though the store whose journal is counted is closed by a move meanwhile."""
     user = User("all", None, 1 << 30)
-    cache = Stores(lambda: Store(PROGRAM, sessions=2), [user], 1 << 30)
+    cache = Stores(Store, [user], 1 << 30)
     cache.put(user, "/a", 3, [b"abc"])
     entries = cache.backend.store.entries
 
@@ -319,8 +319,8 @@ def counts_while_content_moves():
     cache.backend.store.entries = entries_after_a_move
     text = Metrics().text(cache)
     wanted = cache.backend.count_entries()
-    cache.close_stores()
-    return differences((cache.moves, 1), (f"b3store_cache_journal_entries {wanted}\n" in text, True), (raised(cache.count_entries), Ended))
+    cache.backend.store.close()
+    return differences((cache.moves, 1), (f"b3store_cache_journal_entries {wanted}\n" in text, True), (raised(cache.count_entries), ValueError))
 
 
 def refusal(work, *words):
@@ -338,7 +338,7 @@ def writes_from_both_stores():
         folder, user, large = os.path.join(place, "cache"), User("all", None, 1 << 30), os.urandom(3 << 19)
         files = Files(folder)
         files.read()
-        cache = Stores(lambda: Store(PROGRAM, sessions=2), [user], 1 << 30)
+        cache = Stores(Store, [user], 1 << 30)
         cache.files = files
         for key, content in ("/old", b"abc"), ("/moves", large), ("/gone", b"gone"):
             cache.put(user, key, len(content), [content[: 1 << 20], content[1 << 20 :]])
@@ -358,7 +358,7 @@ def writes_from_both_stores():
         files.start(cache)
         files.end()
         found = differences((len(has_moved), 1), (list(user.keys), ["/old", "/moves", "/new"]), (sorted(cache.old.counts[user]), []), (cache.close_old(), True), (len(cache.backends()), 1), (cache.totals(), (3, len(large) + 7)))
-        cache.close_stores()
+        cache.backend.store.close()
         os.close(files.folder)
         files = Files(folder)
         files.read()

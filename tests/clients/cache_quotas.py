@@ -8,7 +8,7 @@ import threading
 import time
 from unittest import mock
 
-from shared import ABC, FOUR, PROGRAM, SECONDS, differences, raised, refusal
+from shared import ABC, FOUR, SECONDS, differences, raised, refusal
 from b3store import Refused, Store
 import cache_stores
 from cache_disk import begun_files
@@ -29,7 +29,7 @@ STEPS, MOVES = 100, 4
 
 
 def cache_of(user, **words):
-    return Cache(lambda: Store(PROGRAM, sessions=2), [user], 1 << 30, **words)
+    return Cache(Store, [user], 1 << 30, **words)
 
 
 def put(cache, user, key, content):
@@ -54,7 +54,7 @@ def evicts_what_is_needed():
     with cache.reading(user, "/large"):
         found += differences((cache.drop(user, "/large"), True), (put(cache, user, "/c", b"c" * 60000), ("S6", 10000)), (sorted(user.keys), ["/again", "/kept"]))
         found += differences((put(cache, user, "/c", b"c" * 50000), None), (sorted(user.keys), ["/c"]), (cache.evictions, 2))
-    cache.close_stores()
+    cache.backend.store.close()
     return found
 
 
@@ -104,7 +104,7 @@ def evicts_in_turns():
         found += differences((put(cache, user, "/large", b"l" * 17001), None), (holds.most, 3), (list(user.keys), ["/18", "/19", "/large"]), (cache.evictions, 18))
         found += differences((put(cache, user, "/none", bytes(20001)), ("S6", 999)), (put(cache, user, "/all", b"a" * 20000), None), (list(user.keys), ["/all"]))
     found += left_over(cache, user)
-    cache.close_stores()
+    cache.backend.store.close()
     return found
 
 
@@ -118,7 +118,7 @@ def looks_through_no_keys_in_vain():
     cache.add_store()
     found += differences((put(cache, user, "/c", bytes(100001)), ("S6", 20000)), (user.keys.looks, 0), (put(cache, user, "/c", bytes(100000)), None), (user.keys.looks, 1))
     found += differences((list(user.keys), ["/c"]), (cache.evictions, 2))
-    cache.close_stores()
+    cache.backend.store.close()
     return found
 
 
@@ -137,7 +137,7 @@ def evicts_for_what_arrives():
         found += left_over(cache, user) + left_over(cache, cache.drafts)
         found += differences((refusal(cache.put, user, "/more", None, pieces_of(large + b"x"))[0], "S6"))
         found += left_over(cache, user) + left_over(cache, cache.drafts)
-        cache.close_stores()
+        cache.backend.store.close()
     return found[:5]
 
 
@@ -163,7 +163,7 @@ def evicts_nothing_for_a_length():
         with cache.reading(user, "/large") as entry:
             found += differences((b"".join(cache.pieces(user, entry, 0, entry.length)) if entry is not None else b"", b"x" * length if wanted else b""))
         found += left_over(cache, user) + left_over(cache, cache.drafts)
-        cache.close_stores()
+        cache.backend.store.close()
     return found
 
 
@@ -179,7 +179,7 @@ def records_no_more_keys():
         found = differences((notes[3:], [("/b", False), ("/c", True), ("/a", False), ("/d", True)]), (cache.evictions, 2))
         return found + differences(*((b"".join(cache.pieces(user, entry, 0, entry.length)), {"/c": b"four", "/d": b"abc"}[key]) for key, entry in user.keys.items()))
     finally:
-        cache.close_stores()
+        cache.backend.store.close()
 
 
 def frees_what_replaces_no_key():
@@ -195,7 +195,7 @@ def frees_what_replaces_no_key():
         cache.backend.store.forget = forget
         return found + differences((put(cache, user, "/b", b"four"), None), (list(user.keys), ["/b"]))
     finally:
-        cache.close_stores()
+        cache.backend.store.close()
 
 
 def free_again(cache):
@@ -235,7 +235,7 @@ def frees_later_what_it_could_not_free():
             found += left_over(cache, user) + left_over(cache, cache.drafts)
         return found
     finally:
-        cache.close_stores()
+        cache.backend.store.close()
 
 
 def frees_later_in_a_move():
@@ -258,7 +258,7 @@ def frees_later_in_a_move():
         found += differences((put(cache, user, "/more", bytes((4 << 20) - 2)), ("S6", (4 << 20) - 3)), (move_all(), []), (cache.close_old(), True))
         return found + left_over(cache, user) + left_over(cache, cache.drafts)
     finally:
-        cache.close_stores()
+        cache.backend.store.close()
 
 
 def frees_later_what_it_could_not_load():
@@ -277,7 +277,7 @@ def frees_later_what_it_could_not_load():
             return found + left_over(cache, user)
         finally:
             os.close(files.folder)
-            cache.close_stores()
+            cache.backend.store.close()
 
 
 def evicts_one_key_without_memory():
@@ -291,7 +291,7 @@ def evicts_one_key_without_memory():
         found += differences((put(cache, user, "/c", b"c" * 40), None), (list(user.keys), ["/b", "/c"]))
         return found + left_over(cache, user)
     finally:
-        cache.close_stores()
+        cache.backend.store.close()
 
 
 def keeps_as_many_keys():
@@ -338,7 +338,7 @@ def grants_nothing_without_memory():
     found += differences((put(cache, user, "/b", bytes(40001)), ("S6", 40000)), (put(cache, user, "/b", b"b" * 40000), None))
     found += differences(([refused for batch in cache.batches(user) for refused in cache.move_batch(user, batch)], []), (cache.close_old(), True))
     found += left_over(cache, user)
-    cache.close_stores()
+    cache.backend.store.close()
     return found
 
 
@@ -477,7 +477,7 @@ def keeps_full_quotas():
     found = []
     for evicts in False, True:
         with mock.patch.multiple(cache_stores, **SMALL):
-            cache = Cache(lambda: Store(PROGRAM, sessions=3), [User("ann", "a", QUOTA), User("bob", "b", QUOTA)], 1 << 20, evicts)
+            cache = Cache(Store, [User("ann", "a", QUOTA), User("bob", "b", QUOTA)], 1 << 20, evicts)
             checked, workers = Checked(cache), [Worker(cache, number) for number in range(4)]
             mover = threading.Thread(target=move_on, args=(cache, workers, found))
             for thread in (*workers, mover):
@@ -491,5 +491,5 @@ def keeps_full_quotas():
             mover.join()
             found += checked.found + [fault for worker in workers for fault in worker.found] + [fault for user in (*cache.users, cache.drafts) for fault in left_over(cache, user)]
             found += differences((all(worker.stored for worker in workers), True), (cache.evictions > 0, evicts))
-            cache.close_stores()
+            cache.backend.store.close()
     return found[:8]

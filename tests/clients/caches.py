@@ -4,18 +4,17 @@ import http.client
 import os
 import queue
 import re
-import shlex
+import shutil
 import signal
 import socket
 import subprocess
 import sys
 import tempfile
 import time
-from types import SimpleNamespace
 from unittest import mock
 
-from shared import ABC, FOUR, PROGRAM, SECONDS, TOP, differences
-from servers import USERS, Cache, ask, ask_without_store, children, free_port, has_ended, is_answered, metrics, raw_answer, wait_until
+from shared import ABC, FOUR, SECONDS, TOP, differences
+from servers import USERS, Cache, ask, free_port, is_answered, metrics, raw_answer, wait_until
 import cache_server
 
 
@@ -189,7 +188,7 @@ def aborts_what_is_cut():
 def keeps_others_out():
     """A second server on a folder ends at once, and says why."""
     with tempfile.TemporaryDirectory() as place, Cache(os.path.join(place, "cache")) as cache:
-        words = [sys.executable, os.path.join(TOP, "examples", "cache_server.py"), cache.folder, "--port", "0", "--program", PROGRAM]
+        words = [sys.executable, os.path.join(TOP, "examples", "cache_server.py"), cache.folder, "--port", "0"]
         run = subprocess.run(words, capture_output=True, timeout=SECONDS)
         return differences((run.returncode, 1), (run.stdout, b""), (run.stderr.decode(), f"cache_server: {cache.folder} is in use by another server\n"))
 
@@ -238,11 +237,11 @@ def refuses_wrong_words():
             ("short", "line 1"), ("digits", "line 1"), ("high", "line 1"), ("twice", "a name twice"), ("both", "a token twice"), ("bytes", "line 2"), ("greek", "line 2"), ("none", "none"), ("empty", "has no user"),
         )]
         cases += [([word, value], 2, repr(value)) for word, value in (
-            ("--port", "70000"), ("--port", "x"), ("--limit", "-1"), ("--most", "5x"), ("--sessions", "0"), ("--sessions", "65"), ("--max-keys", "0"), ("--journal-limit", "-1"),
+            ("--port", "70000"), ("--port", "x"), ("--limit", "-1"), ("--most", "5x"), ("--max-keys", "0"), ("--journal-limit", "-1"),
         )]
-        cases += [(["--port", port], 1, f"port {port}: address already in use"), (["--program", "/no/program"], 1, "/no/program"), (["--program", "true"], 3, "the store has ended")]
+        cases += [(["--port", port], 1, f"port {port}: address already in use")]
         for words, status, part in cases:
-            command = [sys.executable, os.path.join(TOP, "examples", "cache_server.py"), os.path.join(place, "cache"), "--port", "0", "--program", PROGRAM, *words]
+            command = [sys.executable, os.path.join(TOP, "examples", "cache_server.py"), os.path.join(place, "cache"), "--port", "0", *words]
             run = subprocess.run(command, capture_output=True, timeout=SECONDS)
             lines = run.stderr.decode().splitlines()
             found += differences((run.returncode, status), (run.stdout, b""), (b"s3cret" in run.stderr, False))
@@ -261,19 +260,6 @@ def keys_of_any_bytes():
             return differences((put[:12], b"HTTP/1.1 201"), (got[:12], b"HTTP/1.1 200"), (got[-3:], b"abc"))
 
 
-def ends_with_its_store():
-    """Where the store's process is killed, each request is answered by 503, and the server ends with 3; a new one begins with what was saved."""
-    with tempfile.TemporaryDirectory() as place:
-        folder, found = os.path.join(place, "cache"), []
-        with Cache(folder) as cache:
-            cache.ask("PUT", "/k", b"abc")
-        for method, key, body in ("GET", "/k", None), ("HEAD", "/k", None), ("PUT", "/l", b"four"), ("DELETE", "/k", None), ("GET", "/none", None):
-            cache, answer = ask_without_store(lambda: Cache(folder), method, key, body)
-            found += differences((cache.begun.split(", ", 1)[1], "has 1 key, 1 object\n"), (answer and answer[0], 503), (cache.process.returncode, 3))
-            found += differences((cache.told[1], "cache_server: the store has ended; its exit status is -9\n"))
-        return found
-
-
 def put_too_much(port):
     """Sends more of a PUT that is refused than a server reads."""
     with socket.create_connection(("127.0.0.1", port)) as connection, contextlib.suppress(OSError):
@@ -288,7 +274,7 @@ def finds_keys_again():
     with tempfile.TemporaryDirectory() as place:
         for content in b"one", b"two", b"three":
             port = free_port()
-            words = [sys.executable, os.path.join(TOP, "examples", "cluster.py"), place, "--port", str(port), "--servers", "3", "--program", PROGRAM]
+            words = [sys.executable, os.path.join(TOP, "examples", "cluster.py"), place, "--port", str(port), "--servers", "3"]
             with subprocess.Popen(words, stdout=subprocess.PIPE) as cluster:
                 wait_until(lambda port=port: is_answered(port))
                 if before is not None:
@@ -312,7 +298,7 @@ def parts_the_keys():
     """Of four servers one is taken away: the keys of the others are there, and its own can be stored again."""
     with tempfile.TemporaryDirectory() as place:
         port = free_port()
-        words = [sys.executable, os.path.join(TOP, "examples", "cluster.py"), os.path.join(place, "a folder; of"), "--port", str(port), "--program", PROGRAM]
+        words = [sys.executable, os.path.join(TOP, "examples", "cluster.py"), os.path.join(place, "a folder; of"), "--port", str(port)]
         with subprocess.Popen(words, stdout=subprocess.PIPE) as cluster:
             cluster.stdout.readline()
             servers, ports = ([int(word) for word in cluster.stdout.readline().decode().split()[2:]] for _ in range(2))
@@ -334,15 +320,15 @@ def ends_while_servers_start():
     """A signal that arrives before all servers of a cluster have started ends it, with those that have; also Ctrl-C, which a terminal sends to all processes
     of the job."""
     found = []
-    for kill in "kill -s TERM -- ", "kill -s INT -- -":
+    for kill in f"os.kill(job, {signal.SIGTERM:d})", f"os.killpg(job, {signal.SIGINT:d})":
         with tempfile.TemporaryDirectory() as place:
-            program, job = os.path.join(place, "program"), os.path.join(place, "job")
-            with open(program, "w", encoding="ascii") as file:
-                file.write(f'#!/bin/sh\n{kill}"$(cat {shlex.quote(job)})"\nexec {shlex.quote(os.path.abspath(PROGRAM))} "$@"\n')
-            os.chmod(program, 0o700)
-            words = [sys.executable, os.path.join(TOP, "examples", "cluster.py"), os.path.join(place, "cache"), "--port", str(free_port()), "--program", program]
+            job = os.path.join(place, "job")
+            # each Python imports this; a server has the cluster's job ended
+            with open(os.path.join(place, "sitecustomize.py"), "w", encoding="ascii") as file:
+                file.write(f"import os\nif 'cache_server.py' in open('/proc/self/cmdline').read():\n    job = int(open({job!r}).read())\n    {kill}\n")
+            words = [sys.executable, os.path.join(TOP, "examples", "cluster.py"), os.path.join(place, "cache"), "--port", str(free_port())]
             words = ["sh", "-c", 'echo $$ > "$0"; exec "$@"', job, *words]
-            run = subprocess.run(words, capture_output=True, timeout=SECONDS, start_new_session=True)
+            run = subprocess.run(words, capture_output=True, timeout=SECONDS, start_new_session=True, env={**os.environ, "PYTHONPATH": place})
             found += differences((run.returncode, 0), (run.stdout + run.stderr, b""))
     return found
 
@@ -363,7 +349,7 @@ def begins_by_links():
             os.symlink(os.path.join(TOP, "examples", f"{name}.py"), link)
             run = subprocess.run([sys.executable, link, "--help"], stdout=subprocess.DEVNULL, stderr=subprocess.PIPE, timeout=SECONDS)
             found += differences((run.returncode, 0), (run.stderr, b""))
-        words = [sys.executable, links["cluster"], os.path.join(place, "cache"), "--servers", "1", "--program", PROGRAM]
+        words = [sys.executable, links["cluster"], os.path.join(place, "cache"), "--servers", "1"]
         with subprocess.Popen(words, stdout=subprocess.PIPE, stderr=subprocess.PIPE, env=path_without_nginx(place)) as cluster:
             line = cluster.stdout.readline()
             cluster.send_signal(signal.SIGTERM)
@@ -375,21 +361,20 @@ def tells_what_servers_lose():
     """If a server can't save its content at the end, the cluster's status isn't that of success."""
     with tempfile.TemporaryDirectory() as place:
         path, found = path_without_nginx(place), []
-        words = [sys.executable, os.path.join(TOP, "examples", "cluster.py"), os.path.join(place, "cache"), "--servers", "2", "--program", PROGRAM]
-        for ends_store in False, True:
+        words = [sys.executable, os.path.join(TOP, "examples", "cluster.py"), os.path.join(place, "cache"), "--servers", "2"]
+        for is_removed in False, True:
             with subprocess.Popen(words, stdout=subprocess.PIPE, stderr=subprocess.PIPE, env=path) as cluster:
                 lines = [cluster.stdout.readline().decode() for _ in range(3)]
-                if ends_store:
-                    store = children(SimpleNamespace(pid=lines[1].split()[-1]))[0]
-                    os.kill(store, signal.SIGKILL)
-                    wait_until(lambda store=store: has_ended(store))
+                if is_removed:
+                    shutil.rmtree(os.path.join(place, "cache", "0"))
+                    ask(int(lines[2].split()[2]), "PUT", "/k", b"abc")
                 cluster.send_signal(signal.SIGTERM)
                 err = cluster.communicate(timeout=SECONDS)[1].decode()
-            found += differences((cluster.returncode, int(ends_store)), (err, "cache_server: the store has ended; its exit status is -9\n" * ends_store))
+            found += differences((cluster.returncode, int(is_removed)), (err.startswith("cache_server: "), is_removed), (err.count("\n"), int(is_removed)))
         return found
 
 
 def compiles_twice():
-    run = subprocess.run([os.path.join(TOP, "bench", "ccache"), PROGRAM, "4"], stdout=subprocess.PIPE, timeout=SECONDS)
+    run = subprocess.run([os.path.join(TOP, "bench", "ccache"), "4"], stdout=subprocess.PIPE, timeout=SECONDS)
     wanted = rb"cache_server.py: first [0-9.]+ s with 0 hits, second [0-9.]+ s with 4 hits, third [0-9.]+ s with 4 hits"
     return [] if re.search(wanted, run.stdout) else [f"bench/ccache prints {run.stdout!r}"]

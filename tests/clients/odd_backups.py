@@ -13,7 +13,7 @@ import time
 from unittest import mock
 
 from backups import BACKUP, LIST, access_list, backup, changed_in_packs, folder_of_abc, made_backup
-from shared import ABC, PROGRAM, SECONDS, TOP, differences, raised
+from shared import ABC, SECONDS, TOP, differences, raised
 from b3store import Store
 import backup as tool
 import backup_packs
@@ -38,7 +38,7 @@ def write(path, content):
 def save(folder, repository, **replaced):
     """Saves a folder in this process, with other functions in place of some of backup.py. Returns what `save` returns, and the lines that it prints."""
     options = argparse.Namespace(folder=folder, repository=repository, all=False)
-    with Store(PROGRAM, sessions=1) as store, contextlib.redirect_stdout(io.StringIO()) as printed, mock.patch.multiple(tool, **replaced):
+    with Store() as store, contextlib.redirect_stdout(io.StringIO()) as printed, mock.patch.multiple(tool, **replaced):
         is_whole = tool.save(Repository(repository, store, 1 << 23), options)
     return is_whole, printed.getvalue().splitlines()
 
@@ -325,7 +325,7 @@ def ends_without_memory():
         runs = ["save", "--all", folder, repository], ["restore", repository, address, restored], ["check", repository]
         cases = [(word, words, "out of memory") for word in ("memory", "store") for words in runs] + [("thread", ["save", folder, repository], thread)]
         for word, words, told in cases:
-            run = subprocess.run([sys.executable, "-c", WITHOUT_MEMORY, word, "--program", PROGRAM, *words], capture_output=True, timeout=SECONDS)
+            run = subprocess.run([sys.executable, "-c", WITHOUT_MEMORY, word, *words], capture_output=True, timeout=SECONDS)
             found += differences((run.returncode, 1), (run.stdout, b""), (run.stderr.decode(), f"backup: {told}\n"))
         return found + differences((os.path.exists(restored), False), (backup("check", repository)[0], 0))
 
@@ -370,7 +370,7 @@ def restores_without_owners():
             folder = os.path.join(place, str(number))
             options = argparse.Namespace(folder=folder, address=address)
             fault = OSError(number, "not here")
-            with Store(PROGRAM, sessions=1) as store, contextlib.redirect_stdout(io.StringIO()) as printed, mock.patch("os.chown", side_effect=fault):
+            with Store() as store, contextlib.redirect_stdout(io.StringIO()) as printed, mock.patch("os.chown", side_effect=fault):
                 found += differences((tool.restore(Repository(repository, store, 1 << 23), options), False))
             found += differences((printed.getvalue(), "owners not restored: 2; no setuid or setgid bits are set there\n"))
             states = [os.stat(os.path.join(folder, name)) for name in ("f", "d")]
@@ -505,7 +505,7 @@ def restore(repository, address, folder, **replaced):
     """Restores a backup in this process, with other functions in place of some of backup.py. Returns what `restore` returns, or the type of the error that it
     raises, and the lines that it prints."""
     options, result = argparse.Namespace(folder=folder, address=address), []
-    with Store(PROGRAM, sessions=1) as store, contextlib.redirect_stdout(io.StringIO()) as printed, mock.patch.multiple(tool, **{"os": os, **replaced}):
+    with Store() as store, contextlib.redirect_stdout(io.StringIO()) as printed, mock.patch.multiple(tool, **{"os": os, **replaced}):
         fault = raised(lambda: result.append(tool.restore(Repository(repository, store, 1 << 23), options)))
     return fault or result[0], printed.getvalue().splitlines()
 
@@ -698,7 +698,7 @@ def checks_beyond_a_row():
         folder, repository = folder_of_abc(place)
         found = differences((backup("save", folder, repository)[0], 0))
         options = argparse.Namespace(repository=repository)
-        with Store(PROGRAM, sessions=1) as store, contextlib.redirect_stdout(io.StringIO()) as printed, mock.patch.object(backup_packs.Packs, "read", read_some):
+        with Store() as store, contextlib.redirect_stdout(io.StringIO()) as printed, mock.patch.object(backup_packs.Packs, "read", read_some):
             is_right = tool.check(Repository(repository, store, 1 << 23), options)
         lines = printed.getvalue().splitlines()
         return found + differences((is_right, False), ([line for line in lines if "input/output error" in line] != [], True), (lines[-1], "backups 1 broken 0"))

@@ -9,7 +9,7 @@ import tempfile
 import time
 
 from backups import BACKUP, backup, changed_in_packs, folder_of_abc, folder_to_keep, state_of
-from shared import ABC, PROGRAM, SECONDS, TOP, differences
+from shared import ABC, SECONDS, TOP, differences
 from b3store import Store
 import backup_packs
 from backup_repository import Repository
@@ -18,7 +18,7 @@ PACK = 100000
 SMALL_PACKS = f"""import sys; sys.path[:0] = {[os.path.join(TOP, name) for name in ("examples", "python")]!r}
 import backup_packs; backup_packs.PACK = backup_packs.BATCH = {PACK}
 import backup; sys.exit(backup.main())"""
-BY_SMALL_PACKS = [sys.executable, "-c", SMALL_PACKS, "--program", PROGRAM]
+BY_SMALL_PACKS = [sys.executable, "-c", SMALL_PACKS]
 
 
 def saved(folder, repository):
@@ -193,7 +193,7 @@ def reads_an_older_repository():
 
 def make_older(repository):
     """Moves all objects from packs to files of their own."""
-    with Store(PROGRAM, sessions=1) as store:
+    with Store() as store:
         packed = Repository(repository, store, 1 << 23)
         packed.load()
         for address in packed.packs.places:

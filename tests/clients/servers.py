@@ -8,9 +8,8 @@ import signal
 import socket
 import subprocess
 import sys
-import time
 
-from shared import PROGRAM, SECONDS, TOP, wait_until
+from shared import SECONDS, TOP, wait_until
 
 
 SERVER = os.path.join(TOP, "examples", "cache_server.py")
@@ -21,7 +20,7 @@ class Cache:
 
     def __init__(self, folder, users=None, words=(), server=(SERVER,)):
         self.folder = folder
-        command = [sys.executable, *server, folder, "--port", "0", "--program", PROGRAM, *words]
+        command = [sys.executable, *server, folder, "--port", "0", *words]
         if users is not None:
             path = os.path.join(os.path.dirname(folder), "users")
             with open(path, "w", encoding="utf-8") as file:
@@ -87,44 +86,6 @@ def raw_answer(port, request):
     with socket.create_connection(("127.0.0.1", port), timeout=SECONDS) as connection:
         connection.sendall(request)
         return b"".join(iter(lambda: connection.recv(4096), b""))
-
-
-def children(process):
-    """The ids of the processes that a process started, the oldest first."""
-    with open(f"/proc/{process.pid}/task/{process.pid}/children", encoding="ascii") as ids:
-        own = ids.read().split()
-    for task in os.listdir(f"/proc/{process.pid}/task"):
-        with contextlib.suppress(FileNotFoundError, ProcessLookupError), open(f"/proc/{process.pid}/task/{task}/children", encoding="ascii") as ids:
-            own += [word for word in ids.read().split() if word not in own]
-    return [int(word) for word in own]
-
-
-def has_ended(process):
-    """Whether all threads of a process have ended, though its parent may not have asked for its status yet."""
-    try:
-        with open(f"/proc/{process}/stat", encoding="ascii", errors="replace") as stat:
-            return stat.read().rpartition(") ")[2][0] in "ZX" and len(os.listdir(f"/proc/{process}/task")) <= 1
-    except (FileNotFoundError, ProcessLookupError):
-        return True
-
-
-SECONDS_TO_ANSWER = 2
-"""How long a cache server answers once its store has ended."""
-
-
-def ask_without_store(start, *request):
-    """Starts a cache server, kills its store's process, and asks the server, which ends soon. If this took longer than the server answers, that is done again.
-    Returns the server, which has ended, and the answer."""
-    while True:
-        with start() as cache:
-            store, answer, begun = children(cache.process)[0], None, time.monotonic()
-            os.kill(store, signal.SIGKILL)
-            wait_until(lambda: has_ended(store))
-            with contextlib.suppress(OSError, http.client.HTTPException):
-                answer = cache.ask(*request)
-            if answer is not None or time.monotonic() - begun < SECONDS_TO_ANSWER:
-                cache.process.wait(SECONDS)
-                return cache, answer
 
 
 METRIC = re.compile(r"b3store_cache_(\w+(?:\{[^ ]*\})?) ([0-9]+)")

@@ -101,13 +101,13 @@ SavedStore.save = measured
 """A server that writes the KiB of memory that a save needs to the file in the variable GROWTH."""
 FORGETFUL = f"""
 from b3store import relay, server_store
-relay.MAX_KEPT, relay.MAX_BEGUN, line, left = 1, 4, server_store.Store._line, [6]
+relay.MAX_KEPT, relay.MAX_BEGUN, line, left = 1, 4, server_store.StoreProcess._line, [6]
 def line_or_fail(store):
     left[0] -= 1
     if left[0] in (0, -1):
         raise MemoryError
     return line(store)
-server_store.Store._line = line_or_fail
+server_store.StoreProcess._line = line_or_fail
 {RUN_SERVER}
 """
 """A server that asks soon which uploads are open, and has no memory for one of them, and none for the next answer."""

@@ -17,7 +17,7 @@ sys.path.insert(1, PACKAGE)
 from b3store import listening, server, server_store
 from b3store.answers import Answers
 from b3store.files import lock_folder
-from b3store.server_store import Store
+from b3store.server_store import StoreProcess
 from b3store.turns import Turns
 
 STREAMS = 300
@@ -143,7 +143,7 @@ def turns_by_arrival(program: str) -> List[str]:
 def ends_without_a_signal(program: str) -> List[str]:
     """A store whose process has ended is not usable, also before the main thread has asked for the status."""
     del program
-    store = Store.__new__(Store)
+    store = StoreProcess.__new__(StoreProcess)
     store._is_closing = False
     with subprocess.Popen(["cat"], stdin=subprocess.PIPE) as process:
         store._process = process
