@@ -1,4 +1,4 @@
-"""`python -m b3store`, also installed as `b3store-client`: uses a server's store from a shell (docs/LIBRARY.md)."""
+"""`python -m b3store`, also installed as `b3store-client`: uses a server's store from a shell (docs/SERVER.md)."""
 from .programs import end_at_once
 
 if __name__ == "__main__":
@@ -8,7 +8,6 @@ import argparse
 import contextlib
 import errno
 import os
-import re
 import secrets
 import stat
 import sys
@@ -30,7 +29,7 @@ examples:
   b3store-client get ADDRESS -o FILE
 
 exit status: 0 done; 1 an object is missing, a file to put can't be read, or the store refused a command; 2 usage error;
-3 writing, the connection or reading the token failed
+3 writing or the connection failed
 """
 
 
@@ -310,8 +309,6 @@ def range_argument(text: str) -> Tuple[int, int]:
 def add_connection(parser: argparse.ArgumentParser) -> None:
     """Adds the options that all commands have, before or after the command's name."""
     parser.add_argument("--socket", default=argparse.SUPPRESS, metavar="PATH", help="connect to this Unix-domain socket (default: B3STORE_SOCKET)")
-    parser.add_argument("--tcp", default=argparse.SUPPRESS, metavar="HOST:PORT", help="connect to a TCP port instead")
-    parser.add_argument("--token-file", default=argparse.SUPPRESS, metavar="FILE", help="read the token for --tcp from this file")
 
 
 def add_command(commands: Any, work: Callable[[Client, Any], int], name: str, purpose: str, has_tenant: bool = True) -> argparse.ArgumentParser:
@@ -349,28 +346,13 @@ def make_parser() -> argparse.ArgumentParser:
     return parser
 
 
-def read_token(path: str) -> str:
-    """The token in a file, without the white space around it."""
-    with open(path, "rb") as file:
-        return file.read(4096).decode("ascii", "replace").strip()
-
-
 def connect(parser: argparse.ArgumentParser, words: Any) -> Client:
     """A client of the server that the options name."""
-    tcp, token_file = getattr(words, "tcp", None), getattr(words, "token_file", None)
-    path = getattr(words, "socket", None)
-    if tcp is None:
-        path = os.environ.get("B3STORE_SOCKET") if path is None else path
-        # an empty one is the value of an unset variable
-        if not path:
-            parser.error("no server is named: use --socket PATH, or set B3STORE_SOCKET")
-        if token_file is not None:
-            parser.error("--token-file belongs to --tcp")
-        return Client(path)
-    host, _, port = tcp.rpartition(":")
-    if path is not None or not host or not re.fullmatch("[0-9]{1,5}", port) or not 1 <= int(port) <= 65535:
-        parser.error("--tcp is HOST:PORT, and excludes --socket")
-    return Client(host=host.strip("[]"), port=int(port), token=None if token_file is None else read_token(token_file))
+    path = getattr(words, "socket", os.environ.get("B3STORE_SOCKET"))
+    # an empty one is the value of an unset variable
+    if not path:
+        parser.error("no server is named: use --socket PATH, or set B3STORE_SOCKET")
+    return Client(path)
 
 
 def run(arguments: Optional[List[str]] = None) -> int:

@@ -1,18 +1,14 @@
 """A client of a running server (`python -m b3store.server`)."""
 import contextlib
 import os
-import re
 import socket
-from typing import Any, List, Optional, Union
+from typing import List, Union
 
-from .sessions import READ_LEN, Session, Sessions, prepare_tcp
+from .sessions import READ_LEN, Session, Sessions
 from .transfers import Transfers
-from .values import MAX_SESSIONS, Ended, Refused, check_number
+from .values import MAX_SESSIONS, Ended, check_number
 
 Place = Union[str, bytes, "os.PathLike[str]"]
-
-SECONDS_TO_CONNECT = 10
-"""How long a TCP connection and its token's answer may take."""
 
 
 class Client(Sessions, Transfers):
@@ -23,18 +19,14 @@ class Client(Sessions, Transfers):
 
     `tenant` is the number of a tenant that was opened once (docs/LIBRARY.md has an example): one can't be closed, and a store has at most 65,536.
 
-    It connects to a Unix-domain socket or, with `host`, `port` and `token`, to a TCP port; `token` is the server's token, a str of hexadecimal digits.
     Each connection is one session. A client opens `sessions` of them, at most as many as the server has; threads that share the client wait for a free
     one. When a connection ends, the server aborts the uploads that were begun over it, unless it was started with `--keep-uploads`."""
 
-    def __init__(
-        self, path: Optional[Place] = None, *, host: Optional[str] = None, port: Optional[int] = None, token: Optional[str] = None, sessions: int = 1
-    ) -> None:
-        """Connects. Raises OSError if there is no such server, and Ended if it closes a connection at once, as for a wrong token."""
+    def __init__(self, path: Place, *, sessions: int = 1) -> None:
+        """Connects to the socket at a path. Raises OSError if there is no server."""
         super().__init__()
         count = check_number("sessions", sessions, 1, MAX_SESSIONS)
-        self._name, self._connect = check_place(path, host, port, token)
-        self._token = token
+        self._path = os.fspath(path)
         self._sockets: List[socket.socket] = []
         opened: List[Session] = []
         try:
@@ -65,31 +57,14 @@ class Client(Sessions, Transfers):
         self._fault = self._fault or Ended("the client was closed")
 
     def _open_session(self) -> Session:
-        connection = self._connect()
+        connection = connect(self._path)
         try:
             session = Session(connection, connection.makefile("rb", READ_LEN), self._why())
-            if self._token is not None:
-                session.write(f"token {self._token}\n".encode("ascii"))
-                self._check_welcome(session)
-            connection.settimeout(None)
         except BaseException:
             connection.close()
             raise
         self._sockets.append(connection)
         return session
-
-    def _check_welcome(self, session: Session) -> None:
-        """Reads the answer to a token."""
-        try:
-            session.answer_within("ok", SECONDS_TO_CONNECT)
-        except TimeoutError:
-            raise Ended(f"{self._name} does not answer the token") from None
-        except (Refused, ValueError) as fault:
-            raise Ended(f"{self._name} does not answer the token as a server does: {fault}") from None
-        except Ended as fault:
-            if "closed" in str(fault):
-                raise Ended(f"{self._name} closes the connection: is the token right?") from None
-            raise
 
     def _shut_down(self) -> None:
         """Ends the commands that wait."""
@@ -98,29 +73,10 @@ class Client(Sessions, Transfers):
                 connection.shutdown(socket.SHUT_RDWR)
 
     def _ended(self, reason: str = "") -> Ended:
-        return Ended(reason or f"{self._name} has closed the connection")
+        return Ended(reason or f"{os.fsdecode(self._path)} has closed the connection")
 
 
-def check_place(path: Optional[Place], host: Optional[str], port: Optional[int], token: Optional[str]) -> Any:
-    """The server's name for messages, and a function that connects to it."""
-    if (path is None) == (host is None):
-        raise ValueError("a client needs the path of a socket, or a host and a port")
-    if path is not None:
-        if port is not None or token is not None:
-            raise ValueError("a port and a token belong to a host, and not to the path of a socket")
-        place = os.fspath(path)
-        return os.fsdecode(place), lambda: connect_to_path(place)
-    if not isinstance(host, str):
-        raise TypeError(f"a host must be a str, not {type(host).__name__}")
-    number = check_number("port", port, 1, 65535)
-    if token is not None and not isinstance(token, str):
-        raise TypeError(f"a token must be a str, not {type(token).__name__}")
-    if token is not None and not re.fullmatch("[0-9a-fA-F]{1,1024}", token):
-        raise ValueError("a token has 1 to 1024 hexadecimal digits")
-    return f"{host}:{number}", lambda: connect_to_port(host, number)
-
-
-def connect_to_path(path: Union[str, bytes]) -> socket.socket:
+def connect(path: Union[str, bytes]) -> socket.socket:
     """Connects to a Unix-domain socket. Raises OSError, with the path."""
     connection = socket.socket(socket.AF_UNIX, socket.SOCK_STREAM)
     try:
@@ -131,17 +87,4 @@ def connect_to_path(path: Union[str, bytes]) -> socket.socket:
     except BaseException:
         connection.close()
         raise
-    return connection
-
-
-def connect_to_port(host: str, port: int) -> socket.socket:
-    """Connects to a TCP port. Raises OSError, with the host and the port, or ValueError for a host whose name can't be looked up."""
-    try:
-        connection = socket.create_connection((host, port), timeout=SECONDS_TO_CONNECT)
-    except OSError as fault:
-        raise OSError(fault.errno, fault.strerror or str(fault), f"{host}:{port}") from None
-    except UnicodeError:
-        raise ValueError(f"{host!r} is not the name of a host") from None
-    prepare_tcp(connection)
-    connection.settimeout(None)
     return connection

@@ -9,16 +9,11 @@ import time
 from typing import Callable, Iterator, List, Optional, Tuple
 
 from .files import FolderInUse, lock_folder
-from .sessions import prepare_tcp
 from .values import StoreError
 
 FIRST_PASSED = 3
 """The first descriptor that systemd passes."""
-FAMILIES = (socket.AF_UNIX, socket.AF_INET, socket.AF_INET6)
 BACKLOG = 1024
-MIN_TOKEN = 16
-MAX_TOKEN = 512
-"""The minimum and maximum number of digits of a token."""
 SECONDS_TO_LOCK = 2.0
 """How long another server may take to replace a socket."""
 SECONDS_TO_NOTIFY = 1.0
@@ -35,15 +30,9 @@ class Listener:
 
     def __init__(self, listening: socket.socket, path: Optional[str] = None) -> None:
         self.socket = listening
-        self.needs_token = listening.family != socket.AF_UNIX
         self.name = path or address_text(listening)
         self._path = path
         self._identity = identity(path) if path else None
-
-    def prepare(self, connection: socket.socket) -> None:
-        """Sets the options of a new connection."""
-        if self.needs_token:
-            prepare_tcp(connection)
 
     def close(self) -> None:
         """Removes the socket's file if the path still names it, and closes the socket. While it listens, no other server replaces the file."""
@@ -64,12 +53,9 @@ def identity(path: str) -> Optional[Tuple[int, int]]:
 
 
 def address_text(listening: socket.socket) -> str:
-    """A socket's address as it is written in arguments."""
+    """A socket's path."""
     address = listening.getsockname()
-    if listening.family == socket.AF_UNIX:
-        return os.fsdecode(address) if isinstance(address, str) else repr(address)
-    host, port = address[:2]
-    return f"[{host}]:{port}" if ":" in host else f"{host}:{port}"
+    return os.fsdecode(address) if isinstance(address, str) else repr(address)
 
 
 @contextlib.contextmanager
@@ -123,26 +109,6 @@ def listen_at(path: str) -> Listener:
         raise ListenError(f"cannot listen on {path}: {error.strerror or error}") from None
 
 
-def listen_tcp(text: str) -> Listener:
-    """Listens on HOST:PORT, or [HOST]:PORT."""
-    found = re.fullmatch(r"(?:\[([^\[\]]+)\]|([^:\[\]]+)):([0-9]{1,5})", text)
-    if not found or int(found.group(3)) > 65535:
-        raise ListenError(f"{text!r} is not HOST:PORT")
-    try:
-        family, kind, protocol, _, address = socket.getaddrinfo(found.group(1) or found.group(2), int(found.group(3)), type=socket.SOCK_STREAM)[0]
-        listening = socket.socket(family, kind, protocol)
-    except (OSError, UnicodeError) as error:  # a name that is no host's may not be encodable
-        raise ListenError(f"cannot listen on {text}: {getattr(error, 'strerror', None) or error}") from None
-    try:
-        listening.setsockopt(socket.SOL_SOCKET, socket.SO_REUSEADDR, 1)
-        listening.bind(address)
-        listening.listen(BACKLOG)
-    except OSError as error:
-        listening.close()
-        raise ListenError(f"cannot listen on {text}: {error.strerror or error}") from None
-    return Listener(listening)
-
-
 def inherited() -> List[Listener]:
     """The listening sockets that systemd passes to this process. Programs that it starts don't see them."""
     count, owner = os.environ.pop("LISTEN_FDS", ""), os.environ.pop("LISTEN_PID", "")
@@ -162,8 +128,8 @@ def passed(descriptor: int) -> Listener:
         is_listening = listening.getsockopt(socket.SOL_SOCKET, socket.SO_ACCEPTCONN)
     except OSError as error:
         raise ListenError(f"the passed descriptor {descriptor} is not a socket: {error.strerror}") from None
-    if not is_listening or listening.type != socket.SOCK_STREAM or listening.family not in FAMILIES:
-        raise ListenError(f"the passed descriptor {descriptor} is not a listening Unix-domain or TCP socket")
+    if not is_listening or listening.type != socket.SOCK_STREAM or listening.family != socket.AF_UNIX:
+        raise ListenError(f"the passed descriptor {descriptor} is not a listening Unix-domain socket")
     return Listener(listening)
 
 
@@ -188,18 +154,3 @@ def more_time() -> Callable[[], None]:
             due = time.monotonic() + SECONDS_BETWEEN_ASKS
 
     return ask
-
-
-def read_token(path: str) -> bytes:
-    """The token in a file that only its owner can read."""
-    try:
-        with open(path, "rb") as file:
-            mode = os.fstat(file.fileno()).st_mode
-            text = file.read(2 * MAX_TOKEN).strip()
-    except OSError as error:
-        raise ListenError(f"cannot read {path}: {error.strerror}") from None
-    if mode & 0o077:
-        raise ListenError(f"{path} can be read by others: chmod 600 {path}")
-    if not re.fullmatch(rb"[0-9a-fA-F]{%d,%d}" % (MIN_TOKEN, MAX_TOKEN), text):
-        raise ListenError(f"{path} is not a token: {MIN_TOKEN} to {MAX_TOKEN} hexadecimal digits")
-    return text

@@ -114,9 +114,6 @@ class Relay:
             while move(source, requests):
                 wait_for_data()
             return False
-        with contextlib.suppress(BlockingIOError):
-            # nothing is spliced from where TCP has an urgent byte, which a read leaves out
-            return copy(source, requests) > 0
         return True
 
     def _relay_answers(self, nowhere: int) -> None:

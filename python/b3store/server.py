@@ -14,9 +14,8 @@ which speaks the lines of `b3store serve` and nothing else. A separate process m
 - Up to N connections are served at a time. Others wait for their turn, in the order in which they came. One that has waited for `--wait` seconds is sent the
   line `busy` and closed: no answer begins with this word. None of its commands was executed.
 - The store's process takes up to `--memory` bytes. What it has no room for is refused with S14.
-- Over TCP a client's first line is `token HEX`, with the digits of the token file. The server answers `ok`, or closes the connection.
-- On SIGTERM, SIGINT, SIGHUP or SIGQUIT the server stops accepting connections, sends `busy` to those that wait for their turn, closes those that have not
-  sent the token, and waits up to `--grace` seconds for the others to end. A second signal ends the wait. SIGUSR1, SIGALRM and the like are ignored.
+- On SIGTERM, SIGINT, SIGHUP or SIGQUIT the server stops accepting connections, sends `busy` to those that wait for their turn, and waits up to `--grace`
+  seconds for the others to end. A second signal ends the wait. SIGUSR1, SIGALRM and the like are ignored.
 - The store lives in memory: when the server exits, everything in the store is lost, unless it was started with `--save FOLDER`. Then it saves the objects and
   the tenants in the folder after that wait, and a server that is started with the same folder restores them. Open uploads are not saved. If a save fails, the
   server accepts connections again, and tries to end in the same way a minute later, until a save succeeds. After ten minutes, or a further signal, it ends even
@@ -32,7 +31,6 @@ if __name__ == "__main__":
 import _thread
 import argparse
 import contextlib
-import hmac
 import math
 import os
 import resource
@@ -46,7 +44,7 @@ import warnings
 from typing import Callable, Dict, List, NamedTuple, Optional, Set, TextIO, Tuple
 
 from .console import number, one_line, open_standard_files, size
-from .listening import Listener, ListenError, inherited, listen_at, listen_tcp, more_time, notify, read_token
+from .listening import Listener, ListenError, inherited, listen_at, more_time, notify
 from .relay import SECONDS_TO_BEGIN, Relays, serve_connection
 from .saved import SavedStore, SaveError, reason_of
 from .server_store import SECONDS_OF_SILENCE, StoreProcess, remove_left_folders, status_text
@@ -58,9 +56,6 @@ NAME = "b3store.server"
 MAX_SESSIONS = 64
 MAX_WAITING = 1024
 """The maximum number of connections that wait for a turn. Others stay in the queues of the listening sockets."""
-MAX_STRANGERS = 256
-"""The maximum number of connections that have not sent the token. For a further one the oldest is closed."""
-SECONDS_FOR_TOKEN = 10.0
 SECONDS_TO_LEAVE = 1.0
 """How long a refused client may take to close its side."""
 SECONDS_TO_CUT = 2.0
@@ -76,7 +71,6 @@ SECONDS_FOR_LINE = 0.2
 SECONDS_BETWEEN_LOOKS = 0.02
 SECONDS_AT_REST = 5.0
 """How long the server sleeps if nothing happens."""
-MAX_TOKEN_LINE = 1024
 STACK = 1 << 18
 FILES = 64
 """How many descriptors the server itself uses, at most."""
@@ -100,7 +94,6 @@ class Options(NamedTuple):
     wait: float
     grace: float
     keeps_uploads: bool
-    token: Optional[bytes]
 
 
 def report(message: str) -> None:
@@ -134,9 +127,7 @@ class Connections:
         self._store, self._options = store, options
         self._turns, self._relays = Turns(options.sessions), Relays()
         self._open: Set[socket.socket] = set()
-        self._strangers: Dict[socket.socket, None] = {}
-        """Those that have not sent the token, the oldest first."""
-        self._starting: Dict[socket.socket, Tuple[Optional[threading.Event], float]] = {}
+        self._starting: Dict[socket.socket, Tuple[threading.Event, float]] = {}
         """Those whose threads don't run yet, with their turns, and the times when they are closed."""
         self._lock = threading.Lock()
 
@@ -147,16 +138,14 @@ class Connections:
     def is_full(self) -> bool:
         """Whether no further connection is taken now."""
         with self._lock:
-            return len(self._open) - len(self._strangers) >= self._options.sessions + MAX_WAITING
+            return len(self._open) >= self._options.sessions + MAX_WAITING
 
-    def add(self, connection: socket.socket, needs_token: bool) -> None:
-        """Serves a connection by a thread. It lines up for its turn now, unless it has to send the token first."""
-        turn = None if needs_token else self._turns.line_up()
+    def add(self, connection: socket.socket) -> None:
+        """Serves a connection by a thread. It lines up for its turn now."""
+        turn = self._turns.line_up()
         with self._lock:
             self._open.add(connection)
             self._starting[connection] = turn, time.monotonic() + SECONDS_TO_BEGIN
-            if needs_token:
-                self._add_stranger(connection)
         try:
             # the start of a `Thread` waits forever if its memory runs out before it runs
             _thread.start_new_thread(self._serve, (connection, turn))
@@ -174,29 +163,16 @@ class Connections:
     def _give_up(self, connection: socket.socket, reason: str) -> None:
         """Closes a connection, unless its thread runs by now."""
         with self._lock:
-            turn, end = self._starting.pop(connection, (None, 0.0))
-        if end:
+            turn, _ = self._starting.pop(connection, (None, 0.0))
+        if turn is not None:
             report(f"a connection is closed: {reason}")
-            if turn is not None and self._turns.wait(turn, 0):
+            if self._turns.wait(turn, 0):
                 self._turns.give_back()
             self._remove(connection)
 
-    def _add_stranger(self, connection: socket.socket) -> None:
-        if len(self._strangers) >= MAX_STRANGERS:
-            oldest = next(iter(self._strangers))
-            del self._strangers[oldest]
-            with contextlib.suppress(OSError):
-                oldest.shutdown(socket.SHUT_RDWR)
-        self._strangers[connection] = None
-
     def close_waiting(self) -> None:
-        """Sends `busy` to the connections that wait, and to any that come later. Closes those that have not sent the token."""
+        """Sends `busy` to the connections that wait, and to any that come later."""
         self._turns.close()
-        with self._lock:
-            for stranger in self._strangers:
-                with contextlib.suppress(OSError):
-                    # a token that has arrived is still read
-                    stranger.shutdown(socket.SHUT_RD)
 
     def end_all(self, tick: Callable[[], None]) -> None:
         """Ends all connections, and waits until their sessions have ended: their clients change nothing any more."""
@@ -218,26 +194,14 @@ class Connections:
     def _remove(self, connection: socket.socket) -> None:
         with self._lock:
             self._open.discard(connection)
-            self._strangers.pop(connection, None)
             connection.close()
 
-    def _is_trusted(self, connection: socket.socket) -> bool:
-        """Whether a connection sends the token."""
-        if not has_token(connection, self._options.token):
-            return False
-        with self._lock:
-            self._strangers.pop(connection, None)
-        return True
-
-    def _serve(self, connection: socket.socket, turn: Optional[threading.Event]) -> None:
+    def _serve(self, connection: socket.socket, turn: threading.Event) -> None:
         with self._lock:
             if not self._starting.pop(connection, None):
                 return
         try:
-            if turn is None and not self._is_trusted(connection):
-                report("a connection is closed: its first line is not the token")
-                leave(connection, b"")
-            elif self._turns.wait(self._turns.line_up() if turn is None else turn, self._options.wait):
+            if self._turns.wait(turn, self._options.wait):
                 self._relay(connection)
             else:
                 leave(connection, b"busy\n")
@@ -253,22 +217,6 @@ class Connections:
             serve_connection(self._store, self._relays, connection, self._options.keeps_uploads, report)
         finally:
             self._turns.give_back()
-
-
-def has_token(connection: socket.socket, token: Optional[bytes]) -> bool:
-    """Whether the first line of a connection is the token. If it is, it is answered. No byte after the line is read."""
-    line, end = b"", time.monotonic() + SECONDS_FOR_TOKEN
-    with contextlib.suppress(OSError):
-        while not line.endswith(b"\n") and len(line) < MAX_TOKEN_LINE and time.monotonic() < end:
-            connection.settimeout(max(SECONDS_BETWEEN_LOOKS, end - time.monotonic()))
-            byte = connection.recv(1)
-            if not byte:
-                return False
-            line += byte
-    if token is None or not hmac.compare_digest(line[:6] + line[6:].lower(), b"token " + token.lower() + b"\n"):
-        return False
-    connection.sendall(b"ok\n")
-    return True
 
 
 def leave(connection: socket.socket, line: bytes) -> None:
@@ -419,8 +367,7 @@ class Server:
             return
         try:
             connection, _ = listener.socket.accept()
-            listener.prepare(connection)
-            self._connections.add(connection, listener.needs_token)
+            self._connections.add(connection)
         except (BlockingIOError, ConnectionAbortedError):
             return
         except (OSError, MemoryError) as error:
@@ -436,8 +383,6 @@ def read_words() -> argparse.Namespace:
     )
     add = parser.add_argument
     add("--socket", metavar="PATH", help="listen on this Unix-domain socket, created with mode 0600")
-    add("--tcp", metavar="HOST:PORT", help="listen on a TCP port, in addition to --socket or instead; requires --token-file")
-    add("--token-file", metavar="FILE", help="read the token of TCP clients from FILE: 16 to 512 hexadecimal digits; only its owner may read it")
     add("--sessions", metavar="N", type=number(1, MAX_SESSIONS), default=16, help="serve up to N connections at a time (1 to 64, default 16)")
     add("--program", metavar="PATH", default="b3store", help="run this b3store program (default: b3store)")
     seconds = number(0, 86400, float)
@@ -451,25 +396,16 @@ def read_words() -> argparse.Namespace:
         # as the value of an unset variable is
         if value == "":
             parser.error(f"--{name.replace('_', '-')} is empty")
-    if words.token_file and not words.tcp and "LISTEN_FDS" not in os.environ:
-        parser.error("--token-file is for --tcp")
-    if words.tcp and not words.token_file:
-        parser.error("--tcp requires --token-file")
     return words
 
 
-def open_listeners(words: argparse.Namespace, token: Optional[bytes], ending: contextlib.ExitStack) -> List[Listener]:
-    """The sockets named by options, which are closed at the end, and those that systemd passed."""
+def open_listeners(words: argparse.Namespace, ending: contextlib.ExitStack) -> List[Listener]:
+    """The socket of the option, which is closed at the end, and those that systemd passed."""
     listeners = inherited()
-    if any(listener.needs_token for listener in listeners) and token is None:
-        raise ListenError("a TCP socket was passed to the server, which requires --token-file")
     if words.socket:
         with signals_held():
             listeners.append(listen_at(words.socket))
             ending.callback(listeners[-1].close)
-    if words.tcp:
-        listeners.append(listen_tcp(words.tcp))
-        ending.callback(listeners[-1].close)
     if not listeners:
         raise ListenError("nothing to listen on: give --socket PATH")
     return listeners
@@ -492,7 +428,7 @@ def restore(saved: SavedStore, store: StoreProcess) -> None:
 def raise_file_limit(sessions: int) -> None:
     """Raises the limit on open files to what all connections may need, as far as the system allows."""
     soft, hard = resource.getrlimit(resource.RLIMIT_NOFILE)
-    wanted = FILES + FILES_PER_SESSION * sessions + MAX_WAITING + MAX_STRANGERS
+    wanted = FILES + FILES_PER_SESSION * sessions + MAX_WAITING
     if soft != resource.RLIM_INFINITY and soft < wanted:
         with contextlib.suppress(OSError, ValueError):
             resource.setrlimit(resource.RLIMIT_NOFILE, (wanted if hard == resource.RLIM_INFINITY else min(wanted, hard), hard))
@@ -502,15 +438,14 @@ def serve(words: argparse.Namespace) -> int:
     """Starts the store, and serves it until the end."""
     exit_at_ending()
     check_places(words)
-    token = read_token(words.token_file) if words.token_file else None
-    options = Options(words.sessions, words.wait, words.grace, words.keep_uploads, token)
+    options = Options(words.sessions, words.wait, words.grace, words.keep_uploads)
     raise_file_limit(options.sessions)
     threading.stack_size(STACK)
     # The process that is forked for a connection uses nothing that another thread may have locked.
     warnings.filterwarnings("ignore", ".*multi-threaded, use of fork", DeprecationWarning)
     with contextlib.ExitStack() as ending:
         saved = ending.enter_context(contextlib.closing(SavedStore(words.save, more_time()))) if words.save else None
-        listeners = open_listeners(words, token, ending)
+        listeners = open_listeners(words, ending)
         with contextlib.suppress(OSError):
             remove_left_folders()
         with signals_held():

@@ -35,9 +35,6 @@ LEAST_ROOM = select.PIPE_BUF
 SET_PIPE_SIZE = 1031
 """The number of F_SETPIPE_SZ, which `fcntl` has from Python 3.10 on."""
 
-KEEP_ALIVE = (("TCP_KEEPIDLE", 60), ("TCP_KEEPINTVL", 10), ("TCP_KEEPCNT", 6))
-"""A TCP peer that has vanished is noticed after two minutes; while it is sent to, the system notices it, after about a quarter of an hour."""
-
 Value = TypeVar("Value")
 
 Kinds = Union[str, Tuple[str, ...]]
@@ -63,16 +60,6 @@ def set_pipe_size(pipe: Any, size: int) -> None:
     """Sets the capacity of a pipe, if the system allows it."""
     with contextlib.suppress(OSError):
         fcntl.fcntl(pipe, SET_PIPE_SIZE, size)
-
-
-def prepare_tcp(connection: socket.socket) -> None:
-    """Sets the options of a TCP connection, at either end."""
-    with contextlib.suppress(OSError):
-        connection.setsockopt(socket.IPPROTO_TCP, socket.TCP_NODELAY, 1)
-        connection.setsockopt(socket.SOL_SOCKET, socket.SO_KEEPALIVE, 1)
-        for option, value in KEEP_ALIVE:
-            if hasattr(socket, option):
-                connection.setsockopt(socket.IPPROTO_TCP, getattr(socket, option), value)
 
 
 def can_write(target: int, seconds: Optional[float]) -> bool:
@@ -142,15 +129,6 @@ class Session:
         poll = select.poll()
         poll.register(self._reading, select.POLLIN)
         return bool(poll.poll(None if seconds is None else 1000 * seconds))
-
-    def answer_within(self, kind: str, seconds: float) -> List[str]:
-        """Returns the words of an answer after its kind. The whole answer has to arrive within some time. Raises TimeoutError, ValueError and Refused."""
-        end, got = time.monotonic() + seconds, b""
-        while not got.endswith(b"\n"):
-            if not self.has_answer(max(0, end - time.monotonic())):
-                raise TimeoutError("no answer")
-            got = self._longer(got)
-        return self._checked(kind, got[:-1].decode("ascii").split(" "))
 
     def is_at_rest(self) -> bool:
         """Whether the other side has neither closed the connection nor sent anything. No answer may be due."""

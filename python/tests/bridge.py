@@ -14,10 +14,10 @@ SESSIONS = 8
 
 
 class Bridge:
-    """It listens on a Unix-domain socket in a folder of its own, or on a port if there is a token."""
+    """It listens on a Unix-domain socket in a folder of its own."""
 
-    def __init__(self, token=None):
-        self._token, self._count = token, 0
+    def __init__(self):
+        self._count = 0
         self._folder = tempfile.TemporaryDirectory()
         self.path = os.path.join(self._folder.name, "socket")
         self._at = os.path.join(self._folder.name, "door")
@@ -25,12 +25,8 @@ class Bridge:
         words = [PROGRAM, "serve", "--at", self._at, "--sessions", str(SESSIONS)]
         self.process = subprocess.Popen(words, stdin=subprocess.PIPE, stdout=subprocess.DEVNULL)
         self._door = os.open(self._at, os.O_RDWR)
-        if token is None:
-            self._listener = socket.socket(socket.AF_UNIX)
-            self._listener.bind(self.path)
-        else:
-            self._listener = socket.create_server(("127.0.0.1", 0))
-            self.port = self._listener.getsockname()[1]
+        self._listener = socket.socket(socket.AF_UNIX)
+        self._listener.bind(self.path)
         self._listener.listen()
         threading.Thread(target=self._accept, daemon=True).start()
 
@@ -53,10 +49,6 @@ class Bridge:
 
     def _serve(self, connection, number):
         with connection:
-            if self._token is not None:
-                if connection.makefile("rb").readline() != f"token {self._token}\n".encode():
-                    return
-                connection.sendall(b"ok\n")
             sending, reading = self._open(number)
             if sending is None:
                 return

@@ -39,7 +39,6 @@ CASES = (
     ("a client over a socket", served.over_a_socket),
     ("a client that runs again", served.over_several_runs),
     ("a client over several connections", served.over_several_connections),
-    ("a client over TCP", served.over_tcp),
     ("places of servers that are wrong", served.places_that_are_wrong),
     ("servers that end", served.servers_that_end),
     ("clients that are closed", served.clients_that_are_closed),

@@ -13,10 +13,10 @@ import threading
 import time
 import warnings
 
-from served import server_of
+from served import listening, server_of
 from bridge import client_of_a_server, over_both
 from shared import ABC, FOUR, SECONDS, TOP, differences, ended, raised, wait_until
-from b3store import MAX_UPLOAD_LEN, AsyncStore, Client, Ended, Store, client
+from b3store import MAX_UPLOAD_LEN, AsyncStore, Client, Ended, Store
 from b3store.sessions import MAX_LINE_LEN, Session
 
 
@@ -134,31 +134,6 @@ def listen_to_signals():
         signal.signal(number, signal.SIG_DFL)
 
 
-def tokens_without_answer():
-    """A server that sends half an answer, or another one, keeps no one."""
-    found, seconds = [], client.SECONDS_TO_CONNECT
-    client.SECONDS_TO_CONNECT = 0.3
-    try:
-        for answer in b"o", b"", b"\xff\n", b"refused S1\n", b"refused\n", b"x" * (MAX_LINE_LEN + 1):
-            with socket.create_server(("127.0.0.1", 0)) as listener:
-                threading.Thread(target=answer_once, args=(listener, answer), daemon=True).start()
-                start, port = time.monotonic(), listener.getsockname()[1]
-                told = ended(lambda port=port: Client(host="127.0.0.1", port=port, token="00"))
-                found += differences((told is not None and "does not answer the token" in told, True), (time.monotonic() - start < SECONDS / 2, True))
-    finally:
-        client.SECONDS_TO_CONNECT = seconds
-    return found
-
-
-def answer_once(listener, answer):
-    """Answers a connection, and waits until it is closed."""
-    connection = listener.accept()[0]
-    with connection, contextlib.suppress(ConnectionResetError):
-        connection.recv(100)
-        connection.sendall(answer)
-        connection.recv(1)
-
-
 def processes_that_inherit():
     """A process after a fork uses none of its parent's connections, whose answers it would take away."""
     with client_of_a_server() as store:
@@ -180,9 +155,9 @@ def processes_that_inherit():
 def closes_beside_a_fork():
     """What a process closes ends although a new process lives, which in turn waits for no thread of its parent."""
     found = []
-    with socket.create_server(("127.0.0.1", 0)) as listener:
+    with listening() as (path, listener):
         for count in 1, 3:
-            store = Client(host="127.0.0.1", port=listener.getsockname()[1], sessions=count)
+            store = Client(path, sessions=count)
             free, taken = store._free, store._free.get()
             with closed_in_a_fork(store) as told:
                 free.put(taken)
@@ -196,8 +171,8 @@ def closes_beside_a_fork():
 
 def closes_beside_a_reading_thread():
     """A new process also closes a store from which a thread of its parent was reading."""
-    with socket.create_server(("127.0.0.1", 0)) as listener:
-        store = Client(host="127.0.0.1", port=listener.getsockname()[1])
+    with listening() as (path, listener):
+        store = Client(path)
         reader = threading.Thread(target=ended, args=(store.stat,), daemon=True)
         reader.start()
         connection = listener.accept()[0]
@@ -348,7 +323,6 @@ CASES = (
     ("answers with more", answers_with_more),
     ("gets that fail", gets_that_fail),
     ("gets that are ended", gets_that_are_ended),
-    ("tokens without an answer", tokens_without_answer),
     ("processes that inherit a store", processes_that_inherit),
     ("stores that are dropped", stores_that_are_dropped),
     ("closes beside a fork", closes_beside_a_fork),

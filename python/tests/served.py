@@ -1,4 +1,4 @@
-"""Clients of a server, over a Unix-domain socket and over TCP."""
+"""Clients of a server."""
 import contextlib
 import io
 import os
@@ -16,8 +16,6 @@ from bridge import Bridge
 from shared import ABC, FOUR, SECONDS, TOP, Interrupted, alarms, differences, ended, in_threads, interrupt, interrupted_calls, raised, refusal
 from b3store import Client, Ended, Filed, Held, Usage
 from transfers import PART_LEN, content_of
-
-TOKEN = "0123456789abcdefABCDEF"
 
 
 def over_a_socket():
@@ -64,16 +62,6 @@ def over_several_connections():
         return found + differences((store.alive, True))
 
 
-def over_tcp():
-    with Bridge(TOKEN) as server:
-        with Client(host="127.0.0.1", port=server.port, token=TOKEN, sessions=2) as store:
-            found = differences((store.upload(b"abc", store.tenant()), Filed(True, ABC, 3)))
-        for token in "00", TOKEN.lower(), TOKEN[:-1]:
-            told = ended(lambda: Client(host="127.0.0.1", port=server.port, token=token))
-            found += differences((told, f"127.0.0.1:{server.port} closes the connection: is the token right?"))
-        return found
-
-
 def places_that_are_wrong():
     """They raise before anything is sent."""
     found = []
@@ -86,23 +74,26 @@ def places_that_are_wrong():
             Client(none)
         except OSError as fault:
             found += differences((fault.filename, none))
-    for words in {}, {"path": "a", "host": "b"}, {"path": "a", "port": 1}, {"path": "a", "token": "00"}, {"host": "a", "port": 0}, {"host": "a", "port": 65536}:
-        found += differences((raised(lambda words=words: Client(**words)), ValueError))
-    for token in "", "x", "00\n", "00\nstat", "0" * 1025, "\u0660":
-        found += differences((raised(lambda token=token: Client(host="localhost", port=1, token=token)), ValueError))
-    for words in {"host": "a"}, {"host": "a", "port": "80"}, {"host": "a", "port": 80, "token": b"00"}, {"path": "a", "sessions": "2"}:
+    for words in {}, {"path": None}, {"path": 5}, {"path": "a", "sessions": "2"}, {"host": "a", "port": 80}:
         found += differences((raised(lambda words=words: Client(**words)), TypeError))
-    return found + differences((raised(lambda: Client(host="127.0.0.1", port=1)), ConnectionRefusedError))
+    return found + differences(*((raised(lambda count=count: Client("a", sessions=count)), ValueError) for count in (0, 65)))
+
+
+@contextlib.contextmanager
+def listening():
+    """The path of a socket, and the socket, which is listened on."""
+    with tempfile.TemporaryDirectory() as place, socket.socket(socket.AF_UNIX) as listener:
+        path = os.path.join(place, "socket")
+        listener.bind(path)
+        listener.listen()
+        yield path, listener
 
 
 @contextlib.contextmanager
 def server_of(*answers):
     """A server whose connections get some bytes, each after a line, and are then closed. With None for bytes it waits for ever, with a tuple it pauses before
     each of its bytes."""
-    with tempfile.TemporaryDirectory() as place, socket.socket(socket.AF_UNIX) as listener:
-        path = os.path.join(place, "socket")
-        listener.bind(path)
-        listener.listen()
+    with listening() as (path, listener):
         is_done = threading.Event()
 
         def serve(connection):

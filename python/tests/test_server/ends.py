@@ -16,9 +16,6 @@ from judging import SECONDS_TO_WAIT, differences, wait_until
 from lines import SHORTLY
 from running import AS_MODULE, CLEAN, SECONDS, WITH_FEW_FILES, Client, Running, environment, fails, is_listening, is_running
 
-TOKEN = "0123456789abcdef" * 2
-STRANGERS = 1200
-"""More connections than a server takes in all."""
 WITH_NOHUP = (
     "import runpy, signal; signal.signal(signal.SIGHUP, signal.SIG_IGN); runpy.run_module('b3store.server', run_name='__main__', alter_sys=True)"
 )
@@ -60,14 +57,6 @@ socket.socket.accept = accept_or_fail
 runpy.run_module('b3store.server', run_name='__main__', alter_sys=True)
 """
 """A server that has no memory for its first connection when it is to be accepted."""
-
-
-def _token_file(folder: str, text: str = TOKEN + "\n", mode: int = 0o600) -> str:
-    path = os.path.join(folder, "token")
-    with open(path, "w", encoding="ascii") as file:
-        file.write(text)
-    os.chmod(path, mode)
-    return path
 
 
 def _script(folder: str, text: str) -> str:
@@ -247,7 +236,7 @@ def streams_without_room(program: str) -> List[str]:
     """What a server can't report, since nobody reads its streams, keeps no client out, and doesn't keep it from saving."""
     with tempfile.TemporaryDirectory() as folder, contextlib.ExitStack() as stack:
         path, full = f"{folder}/socket", _full_pipe(stack)
-        words = ["--socket", path, "--tcp", "127.0.0.1:0", "--token-file", _token_file(folder), "--save", f"{folder}/saved", "--grace", "0"]
+        words = ["--socket", path, "--save", f"{folder}/saved", "--grace", "0"]
         command = [sys.executable, *AS_MODULE, "--program", program, *words]
         server = stack.enter_context(subprocess.Popen(command, stdout=full, stderr=full, env=environment(folder, {})))
         stack.callback(server.kill)
@@ -257,12 +246,6 @@ def streams_without_room(program: str) -> List[str]:
             server.terminate()
             found += differences((server.wait(SECONDS), 0), (os.path.exists(path), False))
         return found
-
-
-def _tcp_remaining(port: int, *pieces: bytes) -> bytes:
-    with Client(("127.0.0.1", port), socket.AF_INET) as client:
-        client.send(*pieces)
-        return client.ends()
 
 
 def too_large_for_the_store(program: str) -> List[str]:
@@ -298,107 +281,6 @@ def too_many_for_the_store(program: str) -> List[str]:
         return found + differences((client.ends(), b""), (other.ends(), b""), (server.end()[0], 0))
 
 
-def tokens(program: str) -> List[str]:
-    """Over TCP the first line is the token, else the connection ends without a word."""
-    with tempfile.TemporaryDirectory() as folder:
-        words = ("--tcp", "127.0.0.1:0", "--token-file", _token_file(folder))
-        with Running(program, *words) as server, server.client() as unix:
-            port, line = server.port(), f"token {TOKEN}\n".encode()
-            found = differences((unix.ask("tenant 5000"), b"tenant 0\n"))
-            found += differences((_tcp_remaining(port, line), b"ok\n"), (_tcp_remaining(port, line + b"tenants\n"), b"ok\ntenants 1\n0 0 0 5000\n"))
-            found += differences((_tcp_remaining(port, line[:9], line[9:], b"begin 0 3\nputb 0 0 3\nab"), b"ok\nupload 0\n"))
-            wrong = [b"stat\n", b"\n", b"", line[:-1], line[:-2] + b"\n", line[:-1] + b"\r\n", b"x" * 5000]
-            wrong += [line.replace(b"f", b"e"), line.replace(b"token", b"Token")]
-            for text in wrong:
-                found += differences((_tcp_remaining(port, text), b""))
-            reports = server.reported().splitlines()
-            found += differences((unix.uploads(), []), (unix.ask("journal").count(b"\n"), 4))
-            wanted = {"b3store.server: a connection is closed: its first line is not the token"}
-            return found + differences((len(reports), len(wrong)), (set(reports), wanted), (server.end()[::2], (0, [])))
-
-
-def strangers(program: str) -> List[str]:
-    """Peers that send no token keep no others out, neither over the Unix-domain socket nor over TCP."""
-    soft, hard = resource.getrlimit(resource.RLIMIT_NOFILE)
-    resource.setrlimit(resource.RLIMIT_NOFILE, (max(soft, min(4 * STRANGERS, hard)), hard))
-    with contextlib.ExitStack() as stack:
-        words = ("--tcp", "127.0.0.1:0", "--token-file", _token_file(stack.enter_context(tempfile.TemporaryDirectory())))
-        server = stack.enter_context(Running(program, *words))
-        for _ in range(STRANGERS):
-            stack.enter_context(socket.create_connection(("127.0.0.1", server.port())))
-        # until the server has taken as many as it takes
-        time.sleep(2)
-        start = time.monotonic()
-        with server.client() as unix:
-            found = differences((unix.ask("tenant 5000"), b"tenant 0\n"))
-        found += differences((_tcp_remaining(server.port(), f"token {TOKEN}\ntenants\n".encode()), b"ok\ntenants 1\n0 0 0 5000\n"))
-        return found + differences((time.monotonic() - start < SECONDS / 6, True))
-
-
-def strangers_at_the_end(program: str) -> List[str]:
-    """Peers that send no token don't delay the end of a server."""
-    with tempfile.TemporaryDirectory() as folder:
-        words = ("--tcp", "127.0.0.1:0", "--token-file", _token_file(folder), "--grace", "60")
-        with Running(program, *words) as server, Client(("127.0.0.1", server.port()), socket.AF_INET) as silent:
-            silent.send(b"token ")
-            found = differences((wait_until(lambda: server.threads() == 2), True))
-            start = time.monotonic()
-            found += differences((server.end()[::2], (0, [])), (silent.remaining(), b""))
-            return found + differences((time.monotonic() - start < SECONDS / 6, True))
-
-
-def urgent_bytes(program: str) -> List[str]:
-    """What TCP sends as urgent data is left out, and what follows is answered."""
-    with tempfile.TemporaryDirectory() as folder:
-        words = ("--tcp", "127.0.0.1:0", "--token-file", _token_file(folder))
-        with Running(program, *words) as server, Client(("127.0.0.1", server.port()), socket.AF_INET) as client:
-            found = differences((client.ask(f"token {TOKEN}"), b"ok\n"), (client.ask("tenants"), b"tenants 0\n"))
-            for text in b"!", b"tenant 5!":
-                client.socket.send(text, socket.MSG_OOB)
-                client.send(b"000\ntenants\n")
-                found += differences((client.answer() in (b"bad\n", b"tenant 0\n"), True), (client.answer()[:7], b"tenants"))
-            return found + differences((client.ends(), b""), (server.end(), CLEAN))
-
-
-def tcp_alone(program: str) -> List[str]:
-    """A server may listen on TCP alone, and moves contents over it."""
-    with tempfile.TemporaryDirectory() as folder:
-        words = ("--tcp", "localhost:0", "--token-file", _token_file(folder))
-        with Running(program, *words, is_unix=False) as server:
-            family = socket.AF_INET6 if "[" in server.lines[0] else socket.AF_INET
-            with Client(("localhost", server.port()), family) as client:
-                found = differences((client.ask(f"token {TOKEN}"), b"ok\n"), (client.ask("tenant 100000000"), b"tenant 0\n"))
-                content = os.urandom(1 << 18)
-                found += differences((client.ask(f"fetchb 0 {client.file(content)}") == b"bytes 262144\n" + content, True), (client.ends(), b""))
-            return found + differences((server.end(), CLEAN))
-
-
-def token_files(program: str) -> List[str]:
-    """One that isn't there, that others can read, or that has no token; and words that don't go together."""
-    del program
-    found = []
-    with tempfile.TemporaryDirectory() as folder:
-        none = "is not a token"
-        for text, mode, wanted in (TOKEN, 0o644, "can be read by others"), ("abc", 0o600, none), ("x" * 32, 0o600, none), ("", 0o600, none):
-            path = _token_file(folder, text, mode)
-            status, told = fails("--tcp", "127.0.0.1:0", "--token-file", path)
-            found += differences((status, 1), (wanted in told and told.count("\n") == 1, True))
-        told = fails("--tcp", "127.0.0.1:0", "--token-file", f"{folder}/none")
-        found += differences((told, (1, f"b3store.server: cannot read {folder}/none: No such file or directory\n")))
-        path = _token_file(folder)
-        for address in "127.0.0.1", "127.0.0.1:", ":5", "127.0.0.1:99999", "a b:1", "::1:5", "127.0.0.1:x", "host.invalid:80", "256.1.1.1:5", "a" * 64 + ".b:5":
-            status, told = fails("--tcp", address, "--token-file", path, variables={"RES_OPTIONS": "timeout:1 attempts:1"})
-            found += differences((status, 1), (told.startswith("b3store.server: ") and address in told and told.count("\n") == 1, True))
-        with socket.socket() as taken:
-            taken.bind(("127.0.0.1", 0))
-            taken.listen(1)
-            address = f"127.0.0.1:{taken.getsockname()[1]}"
-            told = (1, f"b3store.server: cannot listen on {address}: Address already in use\n")
-            words = ("--socket", f"{folder}/socket", "--tcp", address, "--token-file", path)
-            found += differences((fails(*words), told), (os.listdir(folder), ["token"]))
-    return found
-
-
 def wrong_words(program: str) -> List[str]:
     """Each has status 2 and a line that names it."""
     found = []
@@ -414,10 +296,7 @@ def wrong_words(program: str) -> List[str]:
         (["--memory", "0"], "'0'"),
         (["--memory", "5T"], "'5T'"),
         (["--frob"], "--frob"),
-        (["--tcp", "127.0.0.1:0"], "requires --token-file"),
-        (["--token-file", "f"], "--tcp"),
-        (["--tcp", ""], "--tcp is empty"),
-        (["--token-file", ""], "--token-file is empty"),
+        (["--tcp", "127.0.0.1:0"], "--tcp"),
         (["--save", ""], "--save is empty"),
         (["--socket", ""], "--socket is empty"),
         (["--program", ""], "--program is empty"),
@@ -485,7 +364,9 @@ def programs_that_are_none(program: str) -> List[str]:
             found += differences((told, (1, f"b3store.server: {wanted.format(path)}\n")))
             found += differences((os.listdir(temporary), []), (os.path.exists(f"{folder}/socket"), False))
     with tempfile.TemporaryDirectory() as folder:
-        path = _token_file(folder)
+        path = os.path.join(folder, "token")
+        with open(path, "w", encoding="ascii"):
+            pass
         found += differences((fails("--socket", f"{folder}/socket", "--program", path), (1, f"b3store.server: cannot start {path}: Permission denied\n")))
     return found
 
@@ -637,7 +518,7 @@ def _vsock(stack: contextlib.ExitStack) -> List[socket.socket]:
 
 
 def sockets_that_are_passed(program: str) -> List[str]:
-    """The server listens on what systemd passes, and leaves its file. What is no listening socket, or a TCP one without a token, is an error."""
+    """The server listens on what systemd passes, and leaves its file. What is no listening Unix-domain socket is an error."""
     found = []
     with tempfile.TemporaryDirectory() as folder, socket.socket(socket.AF_UNIX) as passed:
         path = os.path.join(folder, "socket")
@@ -652,8 +533,8 @@ def sockets_that_are_passed(program: str) -> List[str]:
         with socket.socket(socket.AF_UNIX) as silent, socket.socket() as tcp, contextlib.ExitStack() as stack:
             tcp.bind(("127.0.0.1", 0))
             tcp.listen(1)
-            none = b"descriptor 3 is not a listening Unix-domain or TCP socket"
-            for other, wanted in (silent, none), (tcp, b"requires --token-file"), *((other, none) for other in _vsock(stack)):
+            wanted = b"descriptor 3 is not a listening Unix-domain socket"
+            for other in silent, tcp, *_vsock(stack):
                 with _passing(["--program", program], other, folder) as server:
                     out, told = server.communicate(timeout=SECONDS)
                     found += differences((server.returncode, 1), (out, b""), (wanted in told and told.count(b"\n") == 1, True))
@@ -674,12 +555,6 @@ ENDS = (
     ("streams without room", streams_without_room),
     ("a client that puts without end", too_large_for_the_store),
     ("a client whose commands never end", too_many_for_the_store),
-    ("tokens", tokens),
-    ("TCP alone", tcp_alone),
-    ("strangers over TCP", strangers),
-    ("strangers over TCP at the end", strangers_at_the_end),
-    ("urgent bytes over TCP", urgent_bytes),
-    ("files of tokens, and addresses", token_files),
     ("wrong words", wrong_words),
     ("files of sockets", files_of_sockets),
     ("stale sockets", stale_sockets),

@@ -29,8 +29,8 @@ WITH_FEW_FILES = [
 class Client:
     """A connection to a server."""
 
-    def __init__(self, path: Any, family: int = socket.AF_UNIX) -> None:
-        self.socket = socket.socket(family, socket.SOCK_STREAM)
+    def __init__(self, path: str) -> None:
+        self.socket = socket.socket(socket.AF_UNIX)
         self.socket.settimeout(SECONDS)
         self.socket.connect(path)
         self.rest = b""
@@ -113,25 +113,25 @@ class Client:
 class Running:
     """A server that runs, with its socket and its temporary folder in a folder of its own."""
 
-    def __init__(self, program: str, *words: str, python: Sequence[str] = AS_MODULE, is_unix: bool = True, **variables: str) -> None:
+    def __init__(self, program: str, *words: str, python: Sequence[str] = AS_MODULE, **variables: str) -> None:
         self.folder = tempfile.mkdtemp(prefix="b3store-test-")
         self.path = os.path.join(self.folder, "socket")
         self.temporary = os.path.join(self.folder, "temporary")
         os.mkdir(self.temporary)
         self.errors = open(os.path.join(self.folder, "errors"), "ab")
-        command = [sys.executable, *python, *(["--socket", self.path] if is_unix else []), "--program", program, *words]
+        command = [sys.executable, *python, "--socket", self.path, "--program", program, *words]
         self.process = subprocess.Popen(
             command, stdin=subprocess.DEVNULL, stdout=subprocess.PIPE, stderr=self.errors, env=environment(self.temporary, variables), start_new_session=True
         )
         assert self.process.stdout
-        self.lines = self._started(is_unix + ("--tcp" in words))
+        self.lines = self._started()
         """What it wrote to standard output when it began."""
 
-    def _started(self, sockets: int) -> List[str]:
-        """The lines up to the one of the last socket, or until the server has ended."""
+    def _started(self) -> List[str]:
+        """The lines up to the one of the socket, or until the server has ended."""
         assert self.process.stdout
         lines: List[str] = []
-        while sum(" listening on " in line for line in lines) < sockets and lines[-1:] != [""]:
+        while not any(" listening on " in line for line in lines) and lines[-1:] != [""]:
             lines.append(self.process.stdout.readline().decode())
         return lines
 
@@ -149,10 +149,6 @@ class Running:
 
     def client(self) -> Client:
         return Client(self.path)
-
-    def port(self) -> int:
-        """The TCP port that the server chose."""
-        return int(self.lines[-1].rsplit(":", 1)[1])
 
     def children(self) -> List[int]:
         """The process ids of the store and of the connections."""

@@ -127,10 +127,10 @@ def turns_by_arrival(program: str) -> List[str]:
         served.append(connection)
 
     with mock.patch.multiple(server, _thread=types.SimpleNamespace(start_new_thread=start_late), serve_connection=serve):
-        connections = server.Connections(None, server.Options(1, SECONDS, 0.0, False, None))  # type: ignore
+        connections = server.Connections(None, server.Options(1, SECONDS, 0.0, False))  # type: ignore
         pairs = [socket.socketpair() for _ in range(5)]
         for one, _ in pairs:
-            connections.add(one, False)
+            connections.add(one)
         for thread in reversed(waiting):
             thread.start()
         for thread in waiting:
