@@ -3,7 +3,8 @@
 
      sessions door PATH CLIENTS BYTES COUNT       b3store's door is at PATH
      sessions alone PROGRAM 1 BYTES COUNT         PROGRAM serve, started here
-     sessions socket PATH CLIENTS BYTES COUNT     the socket of b3store.server is at PATH
+     sessions passed PATH CLIENTS BYTES COUNT     the socket of b3store.server is at PATH, which passes each client its session's pipes
+     sessions socket PATH CLIENTS BYTES COUNT     the same, through the socket
      sessions redis PATH CLIENTS BYTES COUNT      the socket of redis is at PATH
 
    COUNT is each client's number of objects. It prints the seconds of the puts and of the gets. With one more word QUESTIONS, one client asks so often
@@ -199,6 +200,21 @@ static void open_socket(struct client *c) {
     }
 }
 
+static void ask_for_pipes(struct client *c) {
+    char line[8], room[CMSG_SPACE(2 * sizeof(int))];
+    struct iovec piece = {line, sizeof line};
+    struct msghdr answer = {.msg_iov = &piece, .msg_iovlen = 1, .msg_control = room, .msg_controllen = sizeof room};
+    open_socket(c);
+    send_text(c, "pipes\n");
+    if (recvmsg(c->in, &answer, MSG_CMSG_CLOEXEC) != 6 || answer.msg_controllen != sizeof room) {
+        die("pipes");
+    }
+    // the socket stays open: when it is closed, the server ends the session
+    int *passed = (int *)CMSG_DATA(CMSG_FIRSTHDR(&answer));
+    c->out = passed[0];
+    c->in = passed[1];
+}
+
 static void start_program(struct client *c) {
     int to[2], from[2];
     if (pipe2(to, O_CLOEXEC) != 0 || pipe2(from, O_CLOEXEC) != 0) {
@@ -230,6 +246,8 @@ static void begin(struct client *c) {
     }
     if (strcmp(c->kind, "alone") == 0) {
         start_program(c);
+    } else if (strcmp(c->kind, "passed") == 0) {
+        ask_for_pipes(c);
     } else if (strcmp(c->kind, "socket") == 0) {
         open_socket(c);
     } else {
@@ -328,7 +346,7 @@ static void end(struct client *c) {
 
 int main(int count, char **words) {
     if (count != 6 && count != 7) {
-        fprintf(stderr, "usage: sessions door|alone|socket|redis TARGET CLIENTS BYTES COUNT [QUESTIONS]\n");
+        fprintf(stderr, "usage: sessions door|alone|passed|socket|redis TARGET CLIENTS BYTES COUNT [QUESTIONS]\n");
         return 2;
     }
     int clients = atoi(words[3]), waits = count == 7;

@@ -1,299 +1,176 @@
-"""Connects a client with a session of the store: a process for each connection moves the bytes both ways.
-
-Within one process Python runs one thread at a time, and the threads of several connections would mostly wait for each other."""
-import _thread
+"""Connects a client with a session of the store: passes it the session's pipes, if it asks for them, or moves its bytes to them and back."""
 import array
 import contextlib
 import os
+import re
 import select
-import signal
 import socket
-import threading
-from typing import Any, Callable, Set
+import time
+from typing import Any, Callable
 
 from .answers import Answers
-from .programs import signals_held
-from .server_store import Pipes, StoreProcess, status_text
-from .sessions import splice, write_all
+from .server_store import Pipes, StoreProcess
 
-AT_A_TIME = 1 << 20
-"""The maximum number of bytes spliced by one call."""
-BUFFER = 1 << 16
-"""The maximum number of bytes read by one call."""
-LEAST_SPLICED = 1 << 12
-"""Raw bytes of an answer are spliced if at least this many follow."""
-MAX_KEPT = 1 << 10
-"""With this many uploads a relay reports them to the server."""
+ASK_FOR_PIPES = b"pipes\n"
+"""The first line of a client that wants its session's pipes, and the line that they come with. The store has no command of this name."""
+BEGIN = re.compile(rb"(?:begin|open) [0-9]{1,20} [0-9]{1,20}")
+"""The lines that such a client may send over the socket: they begin an upload."""
+MAX_LINE_LEN = 64
+BUFFER = 1 << 18
+"""The maximum number of bytes that are moved at once."""
 MAX_BEGUN = 1 << 14
-"""With more uploads than this, the server asks the store which of them are still open."""
-FIRST_FREE = 3
-SECONDS_TO_BEGIN = 5.0
-"""How long a thread may take to run."""
-
-Wait = Callable[[], Any]
-"""Returns when an event has come, or the connection has ended."""
+"""With more uploads than this, the store is asked which of them are still open."""
+SECONDS_BETWEEN_CHECKS = 0.5
+SECONDS_BETWEEN_LOOKS = 0.01
+SECONDS_TO_KEEP = 5.0
+"""After this time it is reported that a client keeps the pipes of a connection that has ended."""
 
 
-def waiter(connection: int, events: int) -> Wait:
-    """Waits until a connection can be read or written.
+class Flow:
+    """Bytes on their way from one descriptor to another. Neither blocks."""
 
-    A connection doesn't block. Splicing from a socket without data would hold the lock of the pipe until there is some, so that the store couldn't
-    read what is in the pipe; splicing to a socket without room would do the same to the pipe of the answers."""
-    poll = select.poll()
-    poll.register(connection, events)
-    return poll.poll
+    def __init__(self, source: int, target: int, first: bytes = b"", see: Callable[[memoryview], None] = lambda _: None) -> None:
+        self._source, self._target, self._rest, self._see = source, target, memoryview(first), see
+        self._room = memoryview(bytearray(BUFFER))
+        self.is_over = False
 
+    def wait_by(self, poll: Any) -> None:
+        """Registers what is waited for."""
+        if not self.is_over:
+            poll.register(*((self._target, select.POLLOUT) if self._rest else (self._source, select.POLLIN)))
 
-def move(source: int, target: int) -> int:
-    """Moves what there is, or what comes first, and returns how many bytes: 0 at the end of the source."""
-    moved = splice(source, target, AT_A_TIME)
-    return copy(source, target) if moved is None else moved
-
-
-def copy(source: int, target: int) -> int:
-    """The same without splicing."""
-    data = os.read(source, BUFFER)
-    write_all(target, data, None)
-    return len(data)
-
-
-def begin(run: Callable[[], None]) -> None:
-    """Runs a function in a thread. Raises MemoryError if the thread doesn't run in time: the start of a `Thread` would wait forever for one that ends
-    before, out of memory."""
-    waiting = threading.Lock()
-    waiting.acquire()
-
-    def first() -> None:
-        waiting.release()
-        run()
-
-    _thread.start_new_thread(first, ())
-    if not waiting.acquire(timeout=SECONDS_TO_BEGIN):
-        raise MemoryError
-
-
-class Relay:
-    """The process that moves the bytes of one connection and its session."""
-
-    def __init__(self, connection: socket.socket, pipes: Pipes, reports: int, keeps_uploads: bool) -> None:
-        self._connection, self._pipes, self._reports = connection, pipes, reports
-        self._answers = None if keeps_uploads else Answers()
-
-    def run(self) -> None:
-        """Moves all bytes. Returns when the session has ended, and all uploads that it began are reported."""
-        begin(self._watch_server)
-        begin(self._relay_requests)
-        with open(os.devnull, "wb", buffering=0) as nowhere:
-            self._relay_answers(nowhere.fileno())
-        if self._answers is not None:
-            self._report(self._answers)
-
-    def _watch_server(self) -> None:
-        """Ends the process when the server has ended: the pipe of the reports then has no reader."""
-        poll = select.poll()
-        poll.register(self._reports, 0)
-        poll.poll()
-        os._exit(0)
-
-    def _relay_requests(self) -> None:
-        """Ends with the connection's input or the session. The session then reads the end of its input."""
-        source, requests = self._connection.fileno(), self._pipes.requests
-        wait_for_data = waiter(source, select.POLLIN)
+    def move(self) -> bool:
+        """Moves what can be moved now. False if an end fails: the target then takes no more."""
         try:
-            with contextlib.suppress(OSError):
-                while self._move_requests(source, requests, wait_for_data):
-                    pass
-        finally:
-            os.close(requests)
-
-    @staticmethod
-    def _move_requests(source: int, requests: int, wait_for_data: Wait) -> bool:
-        """Moves requests as they come. False at the end of the connection's input; true if there was nothing to read after all."""
-        wait_for_data()
-        with contextlib.suppress(BlockingIOError):
-            while move(source, requests):
-                wait_for_data()
+            if not (self._rest or self.is_over):
+                piece = self._room[: os.readv(self._source, [self._room])]
+                self._see(piece)
+                self._rest, self.is_over = piece, not piece
+            if self._rest:
+                self._rest = self._rest[os.write(self._target, self._rest) :]
+        except BlockingIOError:
+            pass
+        except OSError:
+            self.is_over = True
             return False
         return True
 
-    def _relay_answers(self, nowhere: int) -> None:
-        """Ends with the session. When the client has left, the remaining answers are still read: they may report uploads."""
-        target = self._connection.fileno()
-        try:
-            self._pass_answers(target, waiter(target, select.POLLOUT))
-        except OSError:
-            self._pass_answers(nowhere, waiter(nowhere, select.POLLOUT))
 
-    def _pass_answers(self, target: int, wait_for_room: Wait) -> None:
-        """Forwards the answers until they end. An OSError is the target's; whatever was read before it counts as forwarded."""
-        goes_on = True
-        while goes_on:
-            try:
-                if self._answers is None:
-                    goes_on = self._pass_all(self._pipes.answers, target)
-                else:
-                    goes_on = self._pass_read(self._answers, self._pipes.answers, target)
-            except BlockingIOError:
-                wait_for_room()
+class Connection:
+    """A client's connection, its session, and the uploads that it began."""
 
-    @staticmethod
-    def _pass_all(source: int, target: int) -> bool:
-        """Forwards answers without reading them. False at their end."""
-        while move(source, target):
-            pass
-        return False
-
-    def _pass_read(self, answers: Answers, source: int, target: int) -> bool:
-        """Forwards raw bytes if many follow, else lines until many raw bytes follow. False at the end of the answers."""
-        if answers.body >= LEAST_SPLICED:
-            moved = splice(source, target, min(answers.body, AT_A_TIME))
-            if moved is not None:
-                answers.body -= moved
-                return moved > 0
-        while True:
-            piece = os.read(source, BUFFER)
-            answers.read(piece)
-            if len(answers.begun) >= MAX_KEPT:
-                self._report(answers)
-            write_all(target, piece, None)
-            if not piece or answers.body >= LEAST_SPLICED:
-                return bool(piece)
-
-    def _report(self, answers: Answers) -> None:
-        """Reports the uploads that were begun since the last report. Only an end of the server can make this fail."""
-        data = memoryview(array.array("Q", answers.begun)).cast("B")
-        while data:
-            data = data[os.write(self._reports, data) :]
-        answers.begun.clear()
-
-
-def close_others(kept: Set[int]) -> None:
-    """Closes all other descriptors than these and the standard ones."""
-    try:
-        found = [int(name) for name in os.listdir("/proc/self/fd")]
-    except OSError:
-        found = list(range(os.sysconf("SC_OPEN_MAX")))
-    for number in found:
-        if number >= FIRST_FREE and number not in kept:
-            # the one that lists them is closed already
-            with contextlib.suppress(OSError):
-                os.close(number)
-
-
-def relay_in_child(connection: socket.socket, pipes: Pipes, reports: int, keeps_uploads: bool) -> None:
-    """Relays in a process that was forked, and ends it. Nothing of the server is used here: its other threads don't exist in this process."""
-    status = 1
-    try:
-        close_others({connection.fileno(), pipes.requests, pipes.answers, reports})
-        Relay(connection, pipes, reports, keeps_uploads).run()
-        status = 0
-    finally:
-        os._exit(status)
-
-
-def start_relay(connection: socket.socket, pipes: Pipes, reports: int, keeps_uploads: bool) -> int:
-    """Starts the process of a relay, and returns its process id."""
-    # these signals are for the server alone
-    with signals_held():
-        process = os.fork()
-        if not process:
-            relay_in_child(connection, pipes, reports, keeps_uploads)
-        return process
-
-
-class Relays:
-    """The processes of the relays that run."""
-
-    def __init__(self) -> None:
-        self._running: Set[int] = set()
-        self._lock = threading.Lock()
+    def __init__(self, store: StoreProcess, connection: socket.socket, keeps_uploads: bool, report: Callable[[str], None]) -> None:
+        self.socket, self._store, self._keeps_uploads, self._report = connection, store, keeps_uploads, report
+        self._answers, self._max_begun = Answers(), MAX_BEGUN
         self._is_cut = False
+        self.has_pipes = False
+        """Whether the client has the session's pipes: the session lasts until it closes them."""
 
-    def add(self, process: int) -> None:
-        with self._lock:
-            self._running.add(process)
-            if self._is_cut:
-                os.kill(process, signal.SIGKILL)
+    def end(self) -> None:
+        """Ends the connection. The commands that have arrived are still executed."""
+        with contextlib.suppress(OSError):
+            self.socket.shutdown(socket.SHUT_RDWR)
 
-    def wait(self, process: int) -> int:
-        """Waits until a process has ended, and returns its exit status, or the number of the signal that ended it, negated."""
-        # until its status is taken, no other process gets its number
-        os.waitid(os.P_PID, process, os.WEXITED | os.WNOWAIT)
-        with self._lock:
-            self._running.discard(process)
-        status = os.waitpid(process, 0)[1]
-        return -os.WTERMSIG(status) if os.WIFSIGNALED(status) else os.WEXITSTATUS(status)
+    def cut(self) -> None:
+        """Ends a session whose pipes the client doesn't have, after the command that is executed."""
+        self._is_cut = True
 
-    def kill(self) -> None:
-        """Kills all processes, and those that are added later."""
-        with self._lock:
-            self._is_cut = True
-            for process in self._running:
-                os.kill(process, signal.SIGKILL)
+    def serve(self) -> None:
+        """Serves the client, until the connection and its session have ended. Then the uploads that it began and left open are aborted."""
+        first = self._first()
+        if not first:
+            return
+        with contextlib.ExitStack() as ending:
+            ending.callback(self._abort)
+            pipes = self._store.open_session()
+            ending.callback(self._wait_for_end, pipes)
+            with pipes.requests, pipes.answers:
+                if first.startswith(ASK_FOR_PIPES):
+                    self._pass(pipes)
+                else:
+                    self._relay(pipes, first)
+            if self.has_pipes:
+                self._begin_uploads(first[len(ASK_FOR_PIPES) :])
 
-    def is_fault(self, status: int) -> bool:
-        """Whether a process that ended so has failed, and was not killed by this server."""
-        return status != 0 and not self._is_cut
+    def _first(self) -> bytes:
+        """The first bytes that arrive: enough of them to show whether the client asks for the pipes."""
+        first = piece = self.socket.recv(BUFFER)
+        while piece and len(first) < len(ASK_FOR_PIPES) and ASK_FOR_PIPES.startswith(first):
+            piece = self.socket.recv(BUFFER)
+            first += piece
+        return first
 
+    def _pass(self, pipes: Pipes) -> None:
+        """Passes the client the session's pipes. The server has no more to do with them."""
+        self.has_pipes = True
+        ends = array.array("i", [pipes.requests.fileno(), pipes.answers.fileno()])
+        self.socket.sendmsg([ASK_FOR_PIPES], [(socket.SOL_SOCKET, socket.SCM_RIGHTS, ends)])
 
-class Uploads:
-    """The uploads that a connection began, without those that were found to be no longer open."""
-
-    def __init__(self, store: StoreProcess) -> None:
-        self._store = store
-        self._begun: Set[int] = set()
-        self._max_begun = MAX_BEGUN
-
-    def read(self, reports: int) -> None:
-        """Reads what a relay reports, until its end."""
-        rest = b""
+    def _begin_uploads(self, text: bytes) -> None:
+        """Has the store execute lines that begin uploads, so that their numbers are known, until the connection ends. Another line ends it."""
         while True:
-            piece = os.read(reports, BUFFER)
-            if not piece:
-                return
-            rest += piece
-            whole = len(rest) // 8 * 8
-            self._begun.update(memoryview(rest[:whole]).cast("Q"))
-            rest = rest[whole:]
-            if len(self._begun) > self._max_begun:
-                self._drop_ended()
+            line, newline, rest = text.partition(b"\n")
+            if newline and BEGIN.fullmatch(line):
+                answer = self._store.answer(line)
+                self._see(memoryview(answer))
+                self.socket.sendall(answer)
+                text = rest
+            elif newline or len(text) > MAX_LINE_LEN:
+                self._report(f"a connection is closed: its client has pipes and sends {text[:MAX_LINE_LEN]!r} over the socket")
+                return self.end()
+            else:
+                piece = self.socket.recv(BUFFER)
+                if not piece:
+                    return
+                text += piece
 
-    def _drop_ended(self) -> None:
-        """Drops the uploads that are no longer open."""
-        open_uploads = self._store.open_uploads()
-        if open_uploads is not None:
-            self._begun &= open_uploads
-        self._max_begun = max(MAX_BEGUN, 2 * len(self._begun))
+    def _relay(self, pipes: Pipes, first: bytes) -> None:
+        """Moves bytes both ways until the session has ended. When the client has left, the remaining answers are still read: they may report uploads."""
+        for end in self.socket, pipes.requests, pipes.answers:
+            os.set_blocking(end.fileno(), False)
+        requests = Flow(self.socket.fileno(), pipes.requests.fileno(), first)
+        answers = Flow(pipes.answers.fileno(), self.socket.fileno(), see=self._see)
+        with open(os.devnull, "wb", buffering=0) as nowhere:
+            while not (answers.is_over or self._is_cut):
+                poll = select.poll()
+                requests.wait_by(poll)
+                answers.wait_by(poll)
+                poll.poll(1000 * SECONDS_BETWEEN_CHECKS if requests.is_over else None)
+                requests.move()
+                if requests.is_over:
+                    pipes.requests.close()
+                if not answers.move():
+                    answers = Flow(pipes.answers.fileno(), nowhere.fileno(), see=self._see)
 
-    def abort(self, report: Callable[[str], None]) -> None:
-        """Aborts the uploads. For one that was sealed or aborted this has no effect, since numbers are never reused."""
-        for failure in self._store.abort(self._begun):
-            report(failure)
+    def _see(self, answers: memoryview) -> None:
+        """Notes the uploads that answers report. Of very many, those that are no longer open are dropped."""
+        if self._keeps_uploads:
+            return
+        if answers.nbytes <= self._answers.body:
+            self._answers.body -= answers.nbytes
+            return
+        self._answers.read(bytes(answers))
+        if len(self._answers.begun) > self._max_begun:
+            open_uploads = self._store.open_uploads()
+            if open_uploads is not None:
+                self._answers.begun &= open_uploads
+            self._max_begun = max(MAX_BEGUN, 2 * len(self._answers.begun))
 
-
-def serve_connection(store: StoreProcess, relays: Relays, connection: socket.socket, keeps_uploads: bool, report: Callable[[str], None]) -> None:
-    """Opens a session, connects both by a process, and waits until both have ended. Then the uploads that the session began and left open are aborted."""
-    uploads = Uploads(store)
-    with contextlib.ExitStack() as ending:
-        ending.callback(uploads.abort, report)
-        pipes = store.open_session()
-        ending.callback(pipes.wait_for_end)
+    def _wait_for_end(self, pipes: Pipes) -> None:
+        """Waits until the store has ended the session."""
+        start, pause = time.monotonic(), SECONDS_BETWEEN_LOOKS
         try:
-            reading, writing = os.pipe()
-            ending.callback(os.close, reading)
-            try:
-                process = start_relay(connection, pipes, writing, keeps_uploads)
-            finally:
-                os.close(writing)
+            while not pipes.has_ended():
+                time.sleep(pause)
+                if self.has_pipes and pause < SECONDS_BETWEEN_CHECKS and time.monotonic() > start + SECONDS_TO_KEEP:
+                    pause = SECONDS_BETWEEN_CHECKS
+                    self._report("a client keeps the pipes of a connection that has ended: its session lasts until it closes them")
         finally:
-            pipes.close()
-        try:
-            relays.add(process)
-            uploads.read(reading)
-        except BaseException:
-            os.kill(process, signal.SIGKILL)
-            relays.wait(process)
-            raise
-        status = relays.wait(process)
-        if relays.is_fault(status):
-            report(f"the process of a connection ended with {status_text(status)}; uploads that the connection began may be left open")
+            pipes.remove_names()
+
+    def _abort(self) -> None:
+        """Aborts the uploads. For one that was sealed or aborted this has no effect, since numbers are never reused."""
+        for upload in sorted(self._answers.begun):
+            fault = self._store.abort(upload)
+            if fault is not None:
+                self._report(f"upload {upload} is not aborted: {fault}")

@@ -1,7 +1,4 @@
-"""A store that many processes share: `python -m b3store.server --socket PATH`.
-
-The server starts `b3store serve --at DOOR --sessions N` with a door in a private temporary folder, and listens on a socket. Each connection is one session,
-which speaks the lines of `b3store serve` and nothing else. A separate process moves its bytes:
+"""A store that many processes share: `python -m b3store.server --socket PATH` (docs/SERVER.md).
 
     $ python -m b3store.server --socket /tmp/store &
     b3store.server: listening on /tmp/store
@@ -9,19 +6,9 @@ which speaks the lines of `b3store serve` and nothing else. A separate process m
     tenant 0
     objects 0 bytes 0 uploads 0 held 0 parts 0
 
-- A connection ends when the client closes it, or when the client has shut down its sending side and all answers are sent. The server then aborts the uploads
-  that the connection began and that are still open, unless it was started with `--keep-uploads`. It never aborts an upload that another connection began.
-- Up to N connections are served at a time. Others wait for their turn, in the order in which they came. One that has waited for `--wait` seconds is sent the
-  line `busy` and closed: no answer begins with this word. None of its commands was executed.
-- The store's process takes up to `--memory` bytes. What it has no room for is refused with S14.
-- On SIGTERM, SIGINT, SIGHUP or SIGQUIT the server stops accepting connections, sends `busy` to those that wait for their turn, and waits up to `--grace`
-  seconds for the others to end. A second signal ends the wait. SIGUSR1, SIGALRM and the like are ignored.
-- The store lives in memory: when the server exits, everything in the store is lost, unless it was started with `--save FOLDER`. Then it saves the objects and
-  the tenants in the folder after that wait, and a server that is started with the same folder restores them. Open uploads are not saved. If a save fails, the
-  server accepts connections again, and tries to end in the same way a minute later, until a save succeeds. After ten minutes, or a further signal, it ends even
-  if the save fails. A store that doesn't answer a save for a minute is killed.
-
-Exit status: 0 after a signal, 1 if it can't start, 2 for wrong arguments, 3 if the store's process ended, 4 if the store can't be saved.
+The server starts `b3store serve --at DOOR --sessions N` with a door in a private temporary folder, and listens on a socket. Each connection is one session,
+which speaks the lines of `b3store serve`, through the session's own pipes if the client asks for them (relay.py). Up to N connections are served at a time;
+the others wait for their turn, in the order in which they came. The store lives in memory; with `--save FOLDER` the server saves it when it ends (saved.py).
 """
 from .programs import ENDING, end_at_once, exit_at_ending, handle_ending, signals_held
 
@@ -30,6 +17,7 @@ if __name__ == "__main__":
 
 import _thread
 import argparse
+import collections
 import contextlib
 import math
 import os
@@ -40,28 +28,28 @@ import socket
 import sys
 import threading
 import time
-import warnings
-from typing import Callable, Dict, List, NamedTuple, Optional, Set, TextIO, Tuple
+from typing import Callable, Deque, List, Optional, Set, TextIO, Tuple
 
 from .console import number, one_line, open_standard_files, size
 from .listening import Listener, ListenError, inherited, listen_at, more_time, notify
-from .relay import SECONDS_TO_BEGIN, Relays, serve_connection
+from .relay import Connection
 from .saved import SavedStore, SaveError, reason_of
 from .server_store import SECONDS_OF_SILENCE, StoreProcess, remove_left_folders, status_text
 from .sessions import can_write
-from .turns import Turns
 from .values import StoreError, half_of_memory
 
 NAME = "b3store.server"
 MAX_SESSIONS = 64
 MAX_WAITING = 1024
 """The maximum number of connections that wait for a turn. Others stay in the queues of the listening sockets."""
-SECONDS_TO_LEAVE = 1.0
-"""How long a refused client may take to close its side."""
+MAX_READS = 16
+"""How often more is read from a client that is sent `busy`."""
+MAX_SAVES = 3
+"""How often a store is saved that is changed meanwhile."""
 SECONDS_TO_CUT = 2.0
 """How long the sessions of connections that are ended by the server may take to execute the commands that they have read."""
 SECONDS_FOR_LAST = 30.0
-"""How long they may then take for the last command, once the processes of the connections are killed."""
+"""How long they may then take for the last command, once their answers are not read any more."""
 SECONDS_FOR_SAVES = 600.0
 """For how long a save that fails is tried again."""
 SECONDS_BETWEEN_SAVES = 60.0
@@ -74,7 +62,7 @@ SECONDS_AT_REST = 5.0
 STACK = 1 << 18
 FILES = 64
 """How many descriptors the server itself uses, at most."""
-FILES_PER_SESSION = 8
+FILES_PER_SESSION = 6
 WRITING = threading.Lock()
 """Is held while a line is written to a standard stream."""
 EPILOG = """\
@@ -87,153 +75,122 @@ exit status: 0 after a signal; 1 it can't start; 2 usage error; 3 the store's pr
 """
 
 
-class Options(NamedTuple):
-    """The server's options."""
-
-    sessions: int
-    wait: float
-    grace: float
-    keeps_uploads: bool
-
-
 def report(message: str) -> None:
     """Writes a line to standard error."""
     write_line(sys.stderr, message)
 
 
 def write_line(stream: Optional[TextIO], message: str) -> None:
-    """Writes a line to a standard stream, if it is open and has room: one that nobody reads holds nothing up."""
-    if stream is not None:
-        line, end = f"{NAME}: {one_line(message)}\n".encode(errors="surrogateescape"), time.monotonic() + SECONDS_FOR_LINE
-        with contextlib.suppress(OSError):
-            while not write_if_room(stream.fileno(), line) and time.monotonic() < end:
-                time.sleep(SECONDS_BETWEEN_LOOKS)
-
-
-def write_if_room(target: int, line: bytes) -> bool:
-    """Writes a line if this doesn't wait, and returns whether it did."""
+    """Writes a line to a standard stream, if it is open and has room soon: one that nobody reads holds nothing up."""
     # what one thread found room for, no other one takes
-    with WRITING:
-        has_room = can_write(target, 0)
-        if has_room:
-            os.write(target, line)
-        return has_room
+    with WRITING, contextlib.suppress(OSError):
+        if stream is not None and can_write(stream.fileno(), SECONDS_FOR_LINE):
+            os.write(stream.fileno(), f"{NAME}: {one_line(message)}\n".encode(errors="surrogateescape"))
 
 
 class Connections:
-    """The connections that are open, each with a thread."""
+    """The connections that are open: those that are served, each by a thread, and those that wait for their turn."""
 
-    def __init__(self, store: StoreProcess, options: Options) -> None:
+    def __init__(self, store: StoreProcess, options: argparse.Namespace) -> None:
         self._store, self._options = store, options
-        self._turns, self._relays = Turns(options.sessions), Relays()
-        self._open: Set[socket.socket] = set()
-        self._starting: Dict[socket.socket, Tuple[threading.Event, float]] = {}
-        """Those whose threads don't run yet, with their turns, and the times when they are closed."""
-        self._lock = threading.Lock()
+        self._waiting: Deque[Tuple[socket.socket, float]] = collections.deque()
+        """Each with the time at which it is sent `busy`."""
+        self._served: Set[Connection] = set()
+        self._has_waiting = threading.Condition()
+        try:
+            for _ in range(options.sessions):
+                _thread.start_new_thread(self._work, ())
+        except (RuntimeError, MemoryError) as error:
+            raise StoreError(f"there are too few threads: {error}") from None
 
     def count(self) -> int:
-        with self._lock:
-            return len(self._open)
+        return len(self._served) + len(self._waiting)
 
     def is_full(self) -> bool:
         """Whether no further connection is taken now."""
-        with self._lock:
-            return len(self._open) >= self._options.sessions + MAX_WAITING
+        return len(self._waiting) >= MAX_WAITING
 
     def add(self, connection: socket.socket) -> None:
-        """Serves a connection by a thread. It lines up for its turn now."""
-        turn = self._turns.line_up()
-        with self._lock:
-            self._open.add(connection)
-            self._starting[connection] = turn, time.monotonic() + SECONDS_TO_BEGIN
-        try:
-            # the start of a `Thread` waits forever if its memory runs out before it runs
-            _thread.start_new_thread(self._serve, (connection, turn))
-        except (RuntimeError, MemoryError) as error:
-            self._give_up(connection, str(error) or "out of memory")
+        """Lets a connection wait for its turn."""
+        with self._has_waiting:
+            self._waiting.append((connection, time.monotonic() + self._options.wait))
+            self._has_waiting.notify()
 
-    def close_unstarted(self) -> None:
-        """Closes the connections whose threads have ended before they ran, out of memory."""
-        now = time.monotonic()
-        with self._lock:
-            late = [connection for connection, (_, end) in self._starting.items() if now >= end]
-        for connection in late:
-            self._give_up(connection, "out of memory")
-
-    def _give_up(self, connection: socket.socket, reason: str) -> None:
-        """Closes a connection, unless its thread runs by now."""
-        with self._lock:
-            turn, _ = self._starting.pop(connection, (None, 0.0))
-        if turn is not None:
-            report(f"a connection is closed: {reason}")
-            if self._turns.wait(turn, 0):
-                self._turns.give_back()
-            self._remove(connection)
-
-    def close_waiting(self) -> None:
-        """Sends `busy` to the connections that wait, and to any that come later."""
-        self._turns.close()
+    def close_waiting(self, now: float) -> float:
+        """Sends `busy` to the connections that have waited until now, and returns when the next one will have."""
+        with self._has_waiting:
+            # the first ones don't wait: idle threads are about to serve them
+            idle = self._options.sessions - len(self._served)
+            while len(self._waiting) > idle and self._waiting[idle][1] <= now:
+                send_busy(self._waiting[idle][0])
+                del self._waiting[idle]
+            return self._waiting[idle][1] if len(self._waiting) > idle else math.inf
 
     def end_all(self, tick: Callable[[], None]) -> None:
-        """Ends all connections, and waits until their sessions have ended: their clients change nothing any more."""
-        with self._lock:
-            for connection in self._open:
-                with contextlib.suppress(OSError):
-                    connection.shutdown(socket.SHUT_RDWR)
-        self._wait_for_ends(SECONDS_TO_CUT, tick)
+        """Ends all connections, and waits until the sessions have ended, but for those whose pipes clients keep: `Client` sends nothing over them any more."""
+        with self._has_waiting:
+            # also those that idle threads were about to serve
+            while self._waiting:
+                send_busy(self._waiting.popleft()[0])
+        self._each(Connection.end)
+        self._wait_for_ends(SECONDS_TO_CUT, tick, self.count)
         # a client that sent much ahead and reads nothing may have commands left
-        self._relays.kill()
-        self._wait_for_ends(SECONDS_FOR_LAST, tick)
+        self._each(Connection.cut)
+        self._wait_for_ends(SECONDS_FOR_LAST, tick, lambda: sum(not connection.has_pipes for connection in list(self._served)))
 
-    def _wait_for_ends(self, seconds: float, tick: Callable[[], None]) -> None:
+    def _each(self, work: Callable[[Connection], None]) -> None:
+        for connection in list(self._served):
+            work(connection)
+
+    @staticmethod
+    def _wait_for_ends(seconds: float, tick: Callable[[], None], count: Callable[[], int]) -> None:
         end = time.monotonic() + seconds
-        while self.count() and time.monotonic() < end:
+        while count() and time.monotonic() < end:
             tick()
             time.sleep(SECONDS_BETWEEN_LOOKS)
 
-    def _remove(self, connection: socket.socket) -> None:
-        with self._lock:
-            self._open.discard(connection)
-            connection.close()
+    def _work(self) -> None:
+        """Serves one connection after another."""
+        while True:
+            with contextlib.suppress(MemoryError):
+                connection = self._next()
+                try:
+                    connection.serve()
+                except (BrokenPipeError, ConnectionResetError):
+                    pass  # the client has left
+                except Exception as error:  # whatever it is, it ends this connection alone
+                    if self._store.is_usable():
+                        report(f"a connection is closed: {type(error).__name__}: {error}")
+                finally:
+                    self._served.discard(connection)
+                    connection.socket.close()
 
-    def _serve(self, connection: socket.socket, turn: threading.Event) -> None:
-        with self._lock:
-            if not self._starting.pop(connection, None):
-                return
-        try:
-            if self._turns.wait(turn, self._options.wait):
-                self._relay(connection)
-            else:
-                leave(connection, b"busy\n")
-        except Exception as error:  # whatever it is, it ends this connection alone
-            if self._store.is_usable():
-                report(f"a connection is closed: {type(error).__name__}: {error}")
-        finally:
-            self._remove(connection)
-
-    def _relay(self, connection: socket.socket) -> None:
-        try:
-            connection.setblocking(False)
-            serve_connection(self._store, self._relays, connection, self._options.keeps_uploads, report)
-        finally:
-            self._turns.give_back()
+    def _next(self) -> Connection:
+        """The connection that has waited longest."""
+        with self._has_waiting:
+            while not self._waiting:
+                self._has_waiting.wait()
+            connection = Connection(self._store, self._waiting[0][0], self._options.keep_uploads, report)
+            self._served.add(connection)
+            self._waiting.popleft()
+            return connection
 
 
-def leave(connection: socket.socket, line: bytes) -> None:
-    """Sends a last line, and waits until the client closes its side: the line could be lost if the connection were closed with unread bytes."""
-    with contextlib.suppress(OSError):
-        connection.settimeout(SECONDS_TO_LEAVE)
-        connection.sendall(line)
+def send_busy(connection: socket.socket) -> None:
+    """Sends `busy` to a client, and closes its connection, once what it has sent is read: the line could be lost otherwise."""
+    with contextlib.suppress(OSError), connection:
+        connection.setblocking(False)
+        connection.sendall(b"busy\n")
         connection.shutdown(socket.SHUT_WR)
-        end = time.monotonic() + SECONDS_TO_LEAVE
-        while connection.recv(1 << 16) and time.monotonic() < end:
-            pass
+        for _ in range(MAX_READS):
+            if not connection.recv(1 << 16):
+                break
 
 
 class Server:
     """The loop that accepts connections, until a signal or the end of the store."""
 
-    def __init__(self, store: StoreProcess, listeners: List[Listener], options: Options, saved: Optional[SavedStore]) -> None:
+    def __init__(self, store: StoreProcess, listeners: List[Listener], options: argparse.Namespace, saved: Optional[SavedStore]) -> None:
         self._store, self._listeners, self._options, self._saved = store, listeners, options, saved
         self._connections, self._more_time = Connections(store, options), more_time()
         self._deadline: Optional[float] = None
@@ -255,12 +212,6 @@ class Server:
 
     def run(self) -> int:
         """Serves, and returns the exit status."""
-        try:
-            return self._serve()
-        finally:
-            signal.set_wakeup_fd(-1)
-
-    def _serve(self) -> int:
         while True:
             status = self._store.status()
             if status is not None:
@@ -275,8 +226,9 @@ class Server:
             is_ending = self._deadline is not None or self._next_save < math.inf
             if is_ending:
                 self._more_time()
-            self._connections.close_unstarted()
-            for key, _ in self._selector.select(SECONDS_BETWEEN_LOOKS if is_ending else SECONDS_AT_REST):
+            now = time.monotonic()
+            until_busy = self._connections.close_waiting(now) - now
+            for key, _ in self._selector.select(SECONDS_BETWEEN_LOOKS if is_ending else min(SECONDS_AT_REST, until_busy)):
                 if key.data is None:
                     self._read_signals()
                 else:
@@ -312,7 +264,7 @@ class Server:
         report(f"the server keeps running, and tries again in {SECONDS_BETWEEN_SAVES:.0f} s; after a further signal it ends even if the save fails")
         self._last_save, self._next_save = min(self._last_save, now + SECONDS_FOR_SAVES), now + SECONDS_BETWEEN_SAVES
         self._store.limit_silence(False)
-        self._connections, self._deadline = Connections(self._store, self._options), None
+        self._deadline = None
         self._let_in()
         return True
 
@@ -321,8 +273,7 @@ class Server:
         self._connections.end_all(self._more_time)
         self._store.limit_silence(True)
         try:
-            with self._store.own_session() as session:
-                text = saved.save(session, self._more_time)
+            text = self._saved_text(saved)
         except SaveError as error:
             report(str(error))
             return False
@@ -331,6 +282,18 @@ class Server:
             return False
         write_line(sys.stdout, f"saved {text}")
         return True
+
+    def _saved_text(self, saved: SavedStore) -> str:
+        """Saves the store, again if it is changed meanwhile, and returns what the save has."""
+        with self._store.own_session() as session:
+            for _ in range(MAX_SAVES):
+                entries = session.counts().entries
+                text = saved.save(session, self._more_time)
+                if session.counts().entries == entries:
+                    break
+            else:
+                report("clients that keep their pipes have changed the store while it was saved: the save may not have all of that")
+        return text
 
     def _read_signals(self) -> None:
         numbers = self._signals.recv(64)
@@ -356,7 +319,7 @@ class Server:
             self._selector.unregister(listener.socket)
             if self._saved is None:
                 listener.close()
-        self._connections.close_waiting()
+        self._connections.close_waiting(math.inf)
 
     def _accept(self, listener: Listener) -> None:
         if self._deadline is not None:
@@ -411,20 +374,6 @@ def open_listeners(words: argparse.Namespace, ending: contextlib.ExitStack) -> L
     return listeners
 
 
-def check_places(words: argparse.Namespace) -> None:
-    """Raises ListenError if the socket is to be in the folder that the server saves in, which it locks."""
-    if words.socket and words.save and os.path.realpath(os.path.dirname(words.socket) or ".") == os.path.realpath(words.save):
-        raise ListenError(f"{words.socket} can't be in the folder of --save")
-
-
-def restore(saved: SavedStore, store: StoreProcess) -> None:
-    """Restores the store that is saved."""
-    with store.own_session() as session:
-        text = saved.restore(session, more_time())
-    if text is not None:
-        write_line(sys.stdout, f"restored {text}")
-
-
 def raise_file_limit(sessions: int) -> None:
     """Raises the limit on open files to what all connections may need, as far as the system allows."""
     soft, hard = resource.getrlimit(resource.RLIMIT_NOFILE)
@@ -437,12 +386,11 @@ def raise_file_limit(sessions: int) -> None:
 def serve(words: argparse.Namespace) -> int:
     """Starts the store, and serves it until the end."""
     exit_at_ending()
-    check_places(words)
-    options = Options(words.sessions, words.wait, words.grace, words.keep_uploads)
-    raise_file_limit(options.sessions)
+    if words.socket and words.save and os.path.realpath(os.path.dirname(words.socket) or ".") == os.path.realpath(words.save):
+        # the folder of a socket and that of a save are locked
+        raise ListenError(f"{words.socket} can't be in the folder of --save")
+    raise_file_limit(words.sessions)
     threading.stack_size(STACK)
-    # The process that is forked for a connection uses nothing that another thread may have locked.
-    warnings.filterwarnings("ignore", ".*multi-threaded, use of fork", DeprecationWarning)
     with contextlib.ExitStack() as ending:
         saved = ending.enter_context(contextlib.closing(SavedStore(words.save, more_time()))) if words.save else None
         listeners = open_listeners(words, ending)
@@ -451,10 +399,14 @@ def serve(words: argparse.Namespace) -> int:
         with signals_held():
             store = StoreProcess()
             ending.callback(store.close)
-        store.start(words.program, options.sessions, words.memory)
+        store.start(words.program, words.sessions, words.memory)
         if saved is not None:
-            restore(saved, store)
-        server = Server(store, listeners, options, saved)
+            with store.own_session() as session:
+                text = saved.restore(session, more_time())
+            if text is not None:
+                write_line(sys.stdout, f"restored {text}")
+        server = Server(store, listeners, words, saved)
+        ending.callback(signal.set_wakeup_fd, -1)
         for listener in listeners:
             write_line(sys.stdout, f"listening on {listener.name}")
         notify("READY=1")

@@ -1,4 +1,4 @@
-"""The store's process: starts it, opens a session for each connection, and asks the server's own questions."""
+"""The store's process: starts it, opens a session for each connection, and sends the server's own commands."""
 import contextlib
 import errno
 import io
@@ -13,12 +13,12 @@ import subprocess
 import tempfile
 import threading
 import time
-from typing import Any, Callable, Iterable, Iterator, List, NamedTuple, Optional, Set
+from typing import Any, Callable, Iterator, List, NamedTuple, Optional, Set
 
 from .files import FolderInUse, lock_folder
 from .sessions import Session, Sessions, set_pipe_size
 from .transfers import Transfers
-from .values import Ended, StoreError
+from .values import Ended, Refused, StoreError
 
 SECONDS_TO_BEGIN = 30.0
 """How long the program may take to answer, and to open a session."""
@@ -34,8 +34,6 @@ SECONDS_BETWEEN_LOOKS = 0.01
 FOLDER_PREFIX = "b3store-server-"
 SECONDS_TO_LOCK = 60.0
 """How long a server may take, at most, to lock the folder that it has made."""
-ABORTS_AT_ONCE = 128
-"""How many commands are sent before their answers are read. The commands and the answers each fit into the smallest pipe, of 4096 bytes."""
 MAX_PIPE_BYTES = 1 << 20
 MAX_PIPES_BYTES = 1 << 25
 """The maximum capacity of all pipes together. Linux grants a user 64 MiB by default."""
@@ -44,25 +42,16 @@ MAX_PIPES_BYTES = 1 << 25
 class Pipes(NamedTuple):
     """The server's ends of a session: requests are written to one, and answers are read from the other; and the names of the pipes."""
 
-    requests: int
-    answers: int
+    requests: io.FileIO
+    answers: io.FileIO
     names: List[str]
 
-    def close(self) -> None:
-        """Closes these ends."""
-        os.close(self.requests)
-        os.close(self.answers)
-
-    def wait_for_end(self) -> None:
-        """Waits until the store has closed its ends, which it does when it has ended the session, and removes the names. No process may have the server's ends
-        any more."""
-        try:
-            while has_reader(self.names[0]):
-                time.sleep(SECONDS_BETWEEN_LOOKS)
-        finally:
-            self.remove_names()
+    def has_ended(self) -> bool:
+        """Whether the store has closed its ends, which it does when it has ended the session. No process may have the other ends any more."""
+        return not has_reader(self.names[0])
 
     def remove_names(self) -> None:
+        """Removes the names, once the session has ended."""
         for name in self.names:
             with contextlib.suppress(FileNotFoundError):
                 os.remove(name)
@@ -181,6 +170,8 @@ class StoreProcess:
             self._commands.flush()
             self._expect_totals(self._answers.fileno(), "the program")
             self._limit(memory)
+            for pipe in self._commands, self._answers:
+                set_pipe_size(pipe, MAX_PIPE_BYTES)
         except (OSError, StoreError) as error:
             status = self._end_of_failed()
             ended = "" if status is None else f"{program} ended with {status_text(status)} before it answered"
@@ -214,8 +205,7 @@ class StoreProcess:
 
     def open_session(self) -> Pipes:
         """Opens a session. The names of its pipes remain until it has ended."""
-        with self._lock:
-            number = next(self._numbers)
+        number = next(self._numbers)
         names = [f"{self._door}.{number}.{end}" for end in ("in", "out")]
         with contextlib.ExitStack() as failing, contextlib.ExitStack() as held:
             for name in names:
@@ -223,10 +213,8 @@ class StoreProcess:
                 failing.callback(os.remove, name)
                 # Until the store has opened them both pipes have a reader and a writer here.
                 held.callback(os.close, os.open(name, os.O_RDWR))
-            requests = os.open(names[0], os.O_WRONLY)
-            failing.callback(os.close, requests)
-            answers = os.open(names[1], os.O_RDONLY)
-            failing.callback(os.close, answers)
+            requests = failing.enter_context(open(names[0], "wb", 0))
+            answers = failing.enter_context(open(names[1], "rb", 0))
             pipes = Pipes(requests, answers, names)
             self._enter(number, pipes)
             failing.pop_all()
@@ -237,8 +225,8 @@ class StoreProcess:
         for pipe in pipes.requests, pipes.answers:
             set_pipe_size(pipe, self._size)
         self._knock(b"%d\n" % number)
-        os.write(pipes.requests, b"stat\n")
-        self._expect_totals(pipes.answers, "a session")
+        pipes.requests.write(b"stat\n")
+        self._expect_totals(pipes.answers.fileno(), "a session")
 
     def _knock(self, line: bytes) -> None:
         end = time.monotonic() + SECONDS_TO_BEGIN
@@ -255,12 +243,12 @@ class StoreProcess:
         finally:
             os.close(door)
 
-    def _ask(self, lines: List[bytes]) -> None:
-        """Sends commands. Raises StoreError if the store has ended."""
+    def _ask(self, line: bytes) -> None:
+        """Sends a command. Raises StoreError if the store has ended."""
         if self._is_closing:
             raise StoreError("the store has ended")
         try:
-            self._commands.write(b"".join(line + b"\n" for line in lines))
+            self._commands.write(line + b"\n")
             self._commands.flush()
         except OSError:
             raise StoreError("the store has ended") from None
@@ -277,7 +265,7 @@ class StoreProcess:
         """Is held while commands are sent and their answers are read. What an error left unread, as when memory runs out, is read by the next exchange."""
         with self._lock:
             if self._is_behind:
-                self._ask([b"stat"])
+                self._ask(b"stat")
                 self._due += 1
                 while self._due:
                     self._due -= self._line().startswith(b"objects ")
@@ -289,42 +277,26 @@ class StoreProcess:
     def own_session(self) -> Iterator[Transfers]:
         """The server's own session, which nothing else uses meanwhile."""
         with self._exchange():
-            for pipe in self._commands, self._answers:
-                set_pipe_size(pipe, MAX_PIPE_BYTES)
             yield OwnSession(Session(self._commands, self._answers, lambda reason="the store has ended": Ended(reason)))
 
-    def _numbers_of(self, line: bytes, kind: bytes) -> Optional[List[int]]:
-        """The first number of each row of an answer that starts with the number of its rows. None if the question is refused."""
-        self._ask([line])
-        words = self._line().split()
-        return [int(self._line().split(b" ", 1)[0]) for _ in range(int(words[1]))] if words[:1] == [kind] else None
+    def answer(self, line: bytes) -> bytes:
+        """Sends a command whose answer is one line, and returns that."""
+        with self._exchange():
+            self._ask(line)
+            return self._line()
 
     def open_uploads(self) -> Optional[Set[int]]:
         """The numbers of all open uploads of all tenants, or None if the store is out of memory for the answer."""
-        found: Set[int] = set()
-        with self._exchange():
-            tenants = self._numbers_of(b"tenants", b"tenants")
-            for tenant in tenants or []:
-                uploads = self._numbers_of(b"uploads %d" % tenant, b"uploads")
-                if uploads is None:
-                    return None
-                found.update(uploads)
-        return None if tenants is None else found
+        with self.own_session() as session:
+            try:
+                return {upload.number for tenant in session.tenants() for upload in session.uploads(tenant)}
+            except Refused:
+                return None
 
-    def abort(self, uploads: Iterable[int]) -> List[str]:
-        """Aborts uploads, except those that are no longer open. Returns a message for each failure."""
-        numbers, failures = sorted(uploads), []
-        for start in range(0, len(numbers), ABORTS_AT_ONCE):
-            some = numbers[start : start + ABORTS_AT_ONCE]
-            with self._exchange():
-                self._ask([b"abort %d" % number for number in some])
-                answers = [self._line() for _ in some]
-            failures += [
-                f"upload {number} is not aborted: {answer[:-1].decode('ascii', 'replace')}"
-                for number, answer in zip(some, answers)
-                if answer not in (b"ok\n", b"refused S7\n")
-            ]
-        return failures
+    def abort(self, upload: int) -> Optional[str]:
+        """Aborts an upload, unless it is no longer open. Returns what the store answers if it refuses."""
+        answer = self.answer(b"abort %d" % upload)
+        return None if answer in (b"ok\n", b"refused S7\n") else answer[:-1].decode("ascii", "replace")
 
     def status(self) -> Optional[int]:
         """The exit status of the process, or None while it runs. Only the main thread asks: two threads that ask at once may both miss the end."""

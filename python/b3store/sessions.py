@@ -124,6 +124,10 @@ class Session:
     def __init__(self, sending: Any, reading: BinaryIO, ended: Callable[..., Ended]) -> None:
         self._sending, self._reading, self._ended = sending, reading, ended
 
+    def begins(self) -> "Session":
+        """The session for the commands that begin uploads."""
+        return self
+
     def has_answer(self, seconds: Optional[float]) -> bool:
         """Whether an answer arrives within some time."""
         poll = select.poll()

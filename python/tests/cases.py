@@ -37,6 +37,8 @@ CASES = (
     ("a store for asyncio", transfers.by_asyncio),
     ("a session that is in use", transfers.scales),
     ("a client over a socket", served.over_a_socket),
+    ("a client over a forwarded socket", served.over_a_forwarded_socket),
+    ("servers that pass no pipes", served.servers_that_pass_no_pipes),
     ("a client that runs again", served.over_several_runs),
     ("a client over several connections", served.over_several_connections),
     ("places of servers that are wrong", served.places_that_are_wrong),

@@ -13,8 +13,8 @@ import threading
 import time
 import warnings
 
-from served import listening, server_of
-from bridge import client_of_a_server, over_both
+from served import server_of
+from bridge import SESSIONS, Bridge, client_of_a_server, over_both
 from shared import ABC, FOUR, SECONDS, TOP, differences, ended, raised, wait_until
 from b3store import MAX_UPLOAD_LEN, AsyncStore, Client, Ended, Store
 from b3store.sessions import MAX_LINE_LEN, Session
@@ -155,33 +155,32 @@ def processes_that_inherit():
 def closes_beside_a_fork():
     """What a process closes ends although a new process lives, which in turn waits for no thread of its parent."""
     found = []
-    with listening() as (path, listener):
-        for count in 1, 3:
-            store = Client(path, sessions=count)
+    with Bridge() as server:
+        for count in 1, SESSIONS:
+            store = Client(server.path, sessions=count)
             free, taken = store._free, store._free.get()
             with closed_in_a_fork(store) as told:
                 free.put(taken)
                 closing = threading.Thread(target=store.close, daemon=True)
                 closing.start()
-                is_noticed = [listener.accept()[0].recv(1) for _ in range(count)] == [b""] * count
                 closing.join(SECONDS / 2)
-                found += differences((told, b"ok"), (closing.is_alive(), False), (is_noticed, True))
+                found += differences((told, b"ok"), (closing.is_alive(), False))
+                with Client(server.path, sessions=SESSIONS) as other:
+                    found += differences((other.alive, True))
     return found
 
 
 def closes_beside_a_reading_thread():
     """A new process also closes a store from which a thread of its parent was reading."""
-    with listening() as (path, listener):
+    with server_of(None) as path:
         store = Client(path)
         reader = threading.Thread(target=ended, args=(store.stat,), daemon=True)
         reader.start()
-        connection = listener.accept()[0]
-        found = differences((connection.recv(5), b"stat\n"))
-        time.sleep(0.1)
-        with connection, closed_in_a_fork(store) as told:
-            found += differences((told, b"ok"))
-        reader.join(SECONDS / 2)
-        return found + differences((reader.is_alive(), False))
+        time.sleep(0.2)
+        with closed_in_a_fork(store) as told:
+            found = differences((told, b"ok"), (reader.is_alive(), True))
+    reader.join(SECONDS / 2)
+    return found + differences((reader.is_alive(), False))
 
 
 def closes_beside_a_close():

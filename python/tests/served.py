@@ -1,9 +1,11 @@
 """Clients of a server."""
+import array
 import contextlib
 import io
 import os
 import pathlib
 import re
+import select
 import signal
 import socket
 import sys
@@ -13,8 +15,10 @@ import threading
 import time
 
 from bridge import Bridge
-from shared import ABC, FOUR, SECONDS, TOP, Interrupted, alarms, differences, ended, in_threads, interrupt, interrupted_calls, raised, refusal
+from shared import ABC, FOUR, SECONDS, TOP, Interrupted, alarms, differences, ended, in_threads, interrupt, interrupted_calls, raised, refusal, wait_until
 from b3store import Client, Ended, Filed, Held, Usage
+from b3store.client import PipeSession
+from b3store.sessions import Session
 from transfers import PART_LEN, content_of
 
 
@@ -62,6 +66,82 @@ def over_several_connections():
         return found + differences((store.alive, True))
 
 
+@contextlib.contextmanager
+def forwarded(target):
+    """A socket whose connections are forwarded to another one, by copies of their bytes, as `ssh -L` does. Descriptors are lost."""
+    def copy(source, other):
+        with contextlib.suppress(OSError):
+            while True:
+                content = source.recv(1 << 16)
+                if not content:
+                    break
+                other.sendall(content)
+        with contextlib.suppress(OSError):
+            other.shutdown(socket.SHUT_WR)
+
+    def accept():
+        with contextlib.suppress(OSError):
+            while True:
+                ends = listener.accept()[0], socket.socket(socket.AF_UNIX)
+                ends[1].connect(target)
+                for pair in ends, ends[::-1]:
+                    threading.Thread(target=copy, args=pair, daemon=True).start()
+
+    with tempfile.TemporaryDirectory() as place, socket.socket(socket.AF_UNIX) as listener:
+        path = os.path.join(place, "socket")
+        listener.bind(path)
+        listener.listen()
+        threading.Thread(target=accept, daemon=True).start()
+        try:
+            yield path
+        finally:
+            listener.shutdown(socket.SHUT_RDWR)
+
+
+def over_a_forwarded_socket():
+    """A client to which no pipes can be passed sends its lines through the socket. What it has begun is aborted when it ends."""
+    content = content_of(9 * PART_LEN + 3)
+    with Bridge() as server, forwarded(server.path) as path, Client(server.path) as near:
+        with Client(path, sessions=3) as store:
+            tenant = store.tenant(1 << 30)
+            address = store.upload(io.BytesIO(content), tenant).address
+            found = differences((store.fetch(tenant, address) == content, True), (near.fetch(tenant, address) == content, True), (store.alive, True))
+            found += differences((in_threads(lambda _: store.file(tenant, b"abc").address, 3), [ABC] * 3), (len(store.uploads(tenant)), 0))
+            upload = store.begin(tenant, 5)
+            found += differences((near.uploads(tenant)[0].number, upload), ([type(session) for session in store._all + near._all], [Session] * 3 + [PipeSession]))
+        found += differences((wait_until(lambda: near.uploads(tenant) == []), True))
+    with server_of(b"tenant 5\n", passes_pipes=False) as path, Client(path) as store:
+        found += differences((store.tenant(), 5))
+    return found
+
+
+def servers_that_pass_no_pipes():
+    """What is no answer to the first line is an error of the connection, and keeps no descriptor."""
+    found, before = [], len(os.listdir("/proc/self/fd"))
+    with open(os.devnull, "rb") as file:
+        ends = [file.fileno(), file.fileno()]
+        cases = (
+            (b"busy\n", [], "the server is busy: each of its sessions has a client"), (b"", [], "has closed the connection"), (b"pip", [], "has closed the connection"),
+            (b"tenant 0\n", [], "the server answers b'tenant 0"), (b"pipes\n", ends[:1], "the server answers"), (b"xxxxxxxx", [], "has closed the connection"),
+        )
+        for answer, passed, reason in cases:
+            with tempfile.TemporaryDirectory() as place, socket.socket(socket.AF_UNIX) as listener:
+                path = os.path.join(place, "socket")
+                listener.bind(path)
+                listener.listen()
+
+                def serve(listener=listener, answer=answer, passed=passed):
+                    with listener.accept()[0] as connection:
+                        connection.recv(6)
+                        if answer:
+                            connection.sendmsg([answer], [(socket.SOL_SOCKET, socket.SCM_RIGHTS, array.array("i", passed))] if passed else [])
+
+                threading.Thread(target=serve, daemon=True).start()
+                told = ended(Client, path)
+                found += differences((told is not None and reason in told, True))
+    return found + differences((wait_until(lambda: len(os.listdir("/proc/self/fd")) == before), True))
+
+
 def places_that_are_wrong():
     """They raise before anything is sent."""
     found = []
@@ -80,32 +160,28 @@ def places_that_are_wrong():
 
 
 @contextlib.contextmanager
-def listening():
-    """The path of a socket, and the socket, which is listened on."""
+def server_of(*answers, passes_pipes=True):
+    """A server whose connections get some bytes, each after a line, and are then closed. With None for bytes it waits until the client closes its socket, with
+    a tuple it pauses before each of its bytes."""
     with tempfile.TemporaryDirectory() as place, socket.socket(socket.AF_UNIX) as listener:
         path = os.path.join(place, "socket")
         listener.bind(path)
         listener.listen()
-        yield path, listener
-
-
-@contextlib.contextmanager
-def server_of(*answers):
-    """A server whose connections get some bytes, each after a line, and are then closed. With None for bytes it waits for ever, with a tuple it pauses before
-    each of its bytes."""
-    with listening() as (path, listener):
         is_done = threading.Event()
 
         def serve(connection):
-            with connection, contextlib.suppress(OSError):
-                for answer in answers:
-                    connection.recv(1 << 16)
-                    if answer is None:
-                        is_done.wait(SECONDS)
+            with connection, contextlib.ExitStack() as ending, contextlib.suppress(OSError):
+                ends = ends_of(connection, passes_pipes, ending)
+                for answer in answers if ends else []:
+                    source = select.select(list(ends), [], [])[0][0]
+                    if not os.read(source, 1 << 16):
                         return
+                    while answer is None:
+                        if is_done.wait(0.05) or select.select([connection], [], [], 0)[0] and not connection.recv(1 << 16):
+                            return
                     for piece in answer if isinstance(answer, tuple) else [answer]:
                         time.sleep(0.3 if isinstance(answer, tuple) else 0)
-                        connection.sendall(piece)
+                        os.write(ends[source], piece)
 
         def accept():
             with contextlib.suppress(OSError):
@@ -118,6 +194,24 @@ def server_of(*answers):
         finally:
             is_done.set()
             listener.shutdown(socket.SHUT_RDWR)
+
+
+def ends_of(connection, passes_pipes, ending):
+    """Where a server reads from a connection, and where it writes the answers to what it reads there. None if the client has to connect again."""
+    ends = {connection.fileno(): connection.fileno()}
+    if connection.recv(6, socket.MSG_PEEK) != b"pipes\n":
+        return ends
+    connection.recv(6)
+    if not passes_pipes:
+        connection.sendall(b"bad\n")
+        return None
+    (requests, theirs), (other, answers) = os.pipe(), os.pipe()
+    connection.sendmsg([b"pipes\n"], [(socket.SOL_SOCKET, socket.SCM_RIGHTS, array.array("i", [theirs, other]))])
+    for end in theirs, other:
+        os.close(end)
+    for end in requests, answers:
+        ending.callback(os.close, end)
+    return {**ends, requests: answers}
 
 
 def servers_that_end():
@@ -142,7 +236,7 @@ def servers_that_end():
 
 def clients_that_are_closed():
     """A client that is broken ends the commands of its other threads when it is closed."""
-    with server_of(None) as path:
+    with server_of(None, passes_pipes=False) as path:
         store = Client(path, sessions=2)
         results = []
         thread = threading.Thread(target=lambda: results.append(raised(store.stat)), daemon=True)

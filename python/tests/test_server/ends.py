@@ -22,29 +22,6 @@ WITH_NOHUP = (
 """Words after `python -c` that run the server as nohup does."""
 
 
-STARVED = """
-import _thread, os, runpy, threading
-def starve():
-    _thread.start_new_thread = threading._start_new_thread = lambda *_: 0
-os.register_at_fork(after_in_child=starve)
-runpy.run_module('b3store.server', run_name='__main__', alter_sys=True)
-"""
-"""A server in the processes of whose connections threads end before they run, as they do without memory."""
-
-
-STARVED_ONCE = """
-import _thread, runpy
-from b3store import relay
-start, left = _thread.start_new_thread, [1]
-def start_later(*given):
-    left[0] -= 1
-    return start(*given) if left[0] < 0 else 0
-_thread.start_new_thread, relay.SECONDS_TO_BEGIN = start_later, 0.5
-runpy.run_module('b3store.server', run_name='__main__', alter_sys=True)
-"""
-"""A server whose first thread ends before it runs, and which notices this soon."""
-
-
 STARVED_AT_FIRST = """
 import runpy, socket
 accept, left = socket.socket.accept, [1]
@@ -76,6 +53,15 @@ def busy(program: str) -> List[str]:
             late.send(b"limit 0 4000\n")
             found = differences((late.remaining(), b"busy\n"), (0.9 < time.monotonic() - start < SECONDS_TO_WAIT, True))
         found += differences((first.ask("usage 0"), b"used 0 reserved 0 limit 5000\n"), (first.ends(), b""), (server.end(), CLEAN))
+    with Running(program, "--sessions", "2", "--wait", "0") as server, server.client() as first:
+        found += differences((first.ask("tenants"), b"tenants 0\n"))
+        for _ in range(50):
+            with server.client() as other:
+                found += differences((other.ask("tenants"), b"tenants 0\n"))
+                with server.client() as late:
+                    found += differences((late.remaining(), b"busy\n"))
+            found += differences((wait_until(lambda: server.sessions() == 1), True))
+        found += differences((first.ends(), b""), (server.end(), CLEAN))
     with Running(program, "--sessions", "1", "--wait", "60") as server, server.client() as first:
         first.ask("tenant 5000")
         with server.client() as following:
@@ -171,28 +157,6 @@ def too_little_memory(program: str) -> List[str]:
             server.signal()
             found += differences((server.status(), 0), ("Traceback" in server.reported(), False), (server.left(), []))
     return found
-
-
-def threads_without_memory(program: str) -> List[str]:
-    """The process of a connection whose threads can't run ends, its client sees the end, and its turn is free."""
-    with Running(program, "--sessions", "1", python=["-c", STARVED]) as server:
-        found = []
-        for _ in range(2):
-            with server.client() as client:
-                client.send(b"tenants\n")
-                found += differences((client.remaining(), b""))
-        told = "the process of a connection ended with status 1; uploads that the connection began may be left open"
-        found += differences((wait_until(lambda: server.reported() == 2 * f"b3store.server: {told}\n"), True))
-        return found + differences((server.relays(), set()), (server.end()[::2], (0, [])))
-
-
-def threads_that_never_run(program: str) -> List[str]:
-    """A connection whose thread in the server ends before it runs is closed, and its turn is free."""
-    with Running(program, "--sessions", "1", python=["-c", STARVED_ONCE]) as server, server.client() as client:
-        time.sleep(2 * SHORTLY)
-        with server.client() as other:
-            found = differences((other.ask("tenants"), b"tenants 0\n"), (client.remaining(), b""), (other.ends(), b""))
-        return found + differences((server.end(), (0, "b3store.server: a connection is closed: out of memory\n", [])))
 
 
 def connections_without_memory(program: str) -> List[str]:
@@ -378,27 +342,11 @@ def a_store_that_is_killed(program: str) -> List[str]:
         address = client.file(bytes(1 << 20))
         silent.send(f"fetchb 0 {address}\n".encode() * 100)
         client.ask("begin 0 5")
-        found += differences((wait_until(lambda: len(server.relays()) == 2), True))
+        found += differences((wait_until(lambda: server.sessions() == 2), True))
         time.sleep(SHORTLY)
         os.kill(server.store(), signal.SIGKILL)
         wanted = "b3store.server: the store ended with status -9, killed by SIGKILL; everything in it is lost\n"
         return found + differences((client.remaining(), b""), (server.status(), 3), (server.reported(), wanted), (server.left(), []))
-
-
-def processes_that_are_killed(program: str) -> List[str]:
-    """When the process of one connection is killed, the server says so and serves the others, and its turn is free."""
-    with Running(program, "--sessions", "2") as server, server.client() as other:
-        other.ask("tenant 5000")
-        others = server.relays()
-        with server.client() as one:
-            found = differences((one.ask("begin 0 5"), b"upload 0\n"), (len(server.relays() - others), 1))
-            os.kill((server.relays() - others).pop(), signal.SIGKILL)
-            found += differences((one.remaining(), b""))
-        with server.client() as one:
-            found += differences((one.ask("stat"), b"objects 0 bytes 0 uploads 1 held 0 parts 0\n"), (other.ask("abort 0"), b"ok\n"), (one.ends(), b""))
-        wanted = "the process of a connection ended with status -9, killed by SIGKILL; uploads that the connection began may be left open"
-        found += differences((other.ends(), b""), (wait_until(lambda: len(server.children()) == 1), True))
-        return found + differences((server.end(), (0, f"b3store.server: {wanted}\n", [])))
 
 
 def a_server_that_is_killed(program: str) -> List[str]:
@@ -406,7 +354,7 @@ def a_server_that_is_killed(program: str) -> List[str]:
     with Running(program) as server, server.client() as client, server.client() as silent:
         client.ask("tenant 1000000000")
         silent.send(f"fetchb 0 {client.file(bytes(1 << 20))}\n".encode() * 100)
-        found = differences((wait_until(lambda: len(server.children()) == 3), True))
+        found = differences((wait_until(lambda: server.sessions() == 2), True))
         time.sleep(SHORTLY)
         processes = server.children()
         server.signal(signal.SIGKILL)
@@ -420,7 +368,7 @@ def ends_in_time(program: str) -> List[str]:
     with Running(program, "--sessions", "1", "--grace", "60") as server, server.client() as client, server.client() as waiting:
         client.ask("tenant 5000")
         client.send(b"begin 0 3\nputb 0 0 3\na")
-        found = differences((client.line(), b"upload 0\n"), (wait_until(lambda: server.threads() == 3), True))
+        found = differences((client.line(), b"upload 0\n"), (wait_until(lambda: server.connections() == 2), True))
         server.signal()
         found += differences((waiting.remaining(), b"busy\n"), (wait_until(lambda: not os.path.exists(server.path)), True))
         client.send(b"bc")
@@ -440,7 +388,7 @@ def ends_by_force(program: str) -> List[str]:
             client.ask("tenant 1000000000")
             address = client.file(bytes(1 << 20))
             silent.send(f"fetchb 0 {address}\n".encode() * 100)
-            found += differences((wait_until(lambda: len(server.relays()) == 2), True))
+            found += differences((wait_until(lambda: server.sessions() == 2), True))
             time.sleep(SHORTLY)
             start = time.monotonic()
             for number in numbers:
@@ -548,8 +496,6 @@ ENDS = (
     ("hundreds at once", hundreds_at_once),
     ("too few files", too_few_files),
     ("too little memory", too_little_memory),
-    ("threads without memory", threads_without_memory),
-    ("a thread that never runs", threads_that_never_run),
     ("a connection without memory", connections_without_memory),
     ("closed streams", closed_streams),
     ("streams without room", streams_without_room),
@@ -560,7 +506,6 @@ ENDS = (
     ("stale sockets", stale_sockets),
     ("programs that are none", programs_that_are_none),
     ("a store that is killed", a_store_that_is_killed),
-    ("processes that are killed", processes_that_are_killed),
     ("a server that is killed", a_server_that_is_killed),
     ("an end in time", ends_in_time),
     ("an end by force", ends_by_force),

@@ -9,7 +9,7 @@ import time
 from typing import List
 
 from judging import differences, wait_until
-from running import CLEAN, WITHOUT_SPLICE, Client, Running
+from running import CLEAN, Client, Running
 
 SHORTLY = 0.3
 """How long it is made sure that nothing happens."""
@@ -30,8 +30,8 @@ def a_session(program: str) -> List[str]:
         return found + differences((server.lines, [f"b3store.server: listening on {server.path}\n"]), (server.end(), CLEAN))
 
 
-def _large_contents(program: str, python: List[str], *words: str) -> List[str]:
-    with Running(program, *words, python=python) as server, server.client() as one, server.client() as two:
+def _large_contents(program: str, *words: str) -> List[str]:
+    with Running(program, *words) as server, server.client() as one, server.client() as two:
         chance, found = random.Random(1), []
         one.ask("tenant 1000000000")
         for length in (0, 1, 1023, 4095, 4096, 4097, 65535, 65536, 65537, 1 << 20, (1 << 24) - 1, 1 << 24):
@@ -55,17 +55,12 @@ def _large_contents(program: str, python: List[str], *words: str) -> List[str]:
 
 def contents_of_all_lengths(program: str) -> List[str]:
     """Parts and contents go both ways as they are, also where they are read in pieces or sent ahead."""
-    return _large_contents(program, ["-m", "b3store.server"])
-
-
-def contents_without_splice(program: str) -> List[str]:
-    """The same where Python has no os.splice."""
-    return _large_contents(program, WITHOUT_SPLICE)
+    return _large_contents(program)
 
 
 def contents_with_kept_uploads(program: str) -> List[str]:
     """The same where answers aren't looked at."""
-    return _large_contents(program, ["-m", "b3store.server"], "--keep-uploads")
+    return _large_contents(program, "--keep-uploads")
 
 
 def by_many(program: str) -> List[str]:
@@ -239,7 +234,6 @@ def one_that_never_reads_and_dies(program: str) -> List[str]:
 LINES = (
     ("a session", a_session),
     ("contents of all lengths", contents_of_all_lengths),
-    ("contents without splice", contents_without_splice),
     ("contents where uploads are kept", contents_with_kept_uploads),
     ("eight clients", by_many),
     ("the uploads of a connection", uploads_of_a_connection),

@@ -13,9 +13,6 @@ SECONDS = 30.0
 """How long an answer, a start or an end may take."""
 ROWS = (b"list", b"journal", b"uploads", b"tenants", b"entries")
 AS_MODULE = ["-m", "b3store.server"]
-WITHOUT_SPLICE = ["-c", "import os, runpy; os.__dict__.pop('splice', None); runpy.run_module('b3store.server', run_name='__main__', alter_sys=True)"]
-"""Words after `python` that run the server as a Python without os.splice would."""
-
 
 FEW_FILES = 48
 WITH_FEW_FILES = [
@@ -113,7 +110,7 @@ class Client:
 class Running:
     """A server that runs, with its socket and its temporary folder in a folder of its own."""
 
-    def __init__(self, program: str, *words: str, python: Sequence[str] = AS_MODULE, **variables: str) -> None:
+    def __init__(self, program: str, *words: str, python: Sequence[str] = AS_MODULE, closes: bool = True, **variables: str) -> None:
         self.folder = tempfile.mkdtemp(prefix="b3store-test-")
         self.path = os.path.join(self.folder, "socket")
         self.temporary = os.path.join(self.folder, "temporary")
@@ -121,7 +118,8 @@ class Running:
         self.errors = open(os.path.join(self.folder, "errors"), "ab")
         command = [sys.executable, *python, "--socket", self.path, "--program", program, *words]
         self.process = subprocess.Popen(
-            command, stdin=subprocess.DEVNULL, stdout=subprocess.PIPE, stderr=self.errors, env=environment(self.temporary, variables), start_new_session=True
+            command, stdin=subprocess.DEVNULL, stdout=subprocess.PIPE, stderr=self.errors, env=environment(self.temporary, variables), start_new_session=True,
+            close_fds=closes,
         )
         assert self.process.stdout
         self.lines = self._started()
@@ -151,7 +149,7 @@ class Running:
         return Client(self.path)
 
     def children(self) -> List[int]:
-        """The process ids of the store and of the connections."""
+        """The process ids of the server's processes: of the store."""
         found: Set[int] = set()
         for task in os.listdir(f"/proc/{self.process.pid}/task"):
             with contextlib.suppress(OSError), open(f"/proc/{self.process.pid}/task/{task}/children", encoding="ascii") as file:
@@ -162,13 +160,14 @@ class Running:
         """The process id of the store."""
         return next(process for process in self.children() if b"\0serve\0" in words_of(process))
 
-    def relays(self) -> Set[int]:
-        """The process ids of the connections."""
-        return {process for process in self.children() if b"\0serve\0" not in words_of(process)}
+    def sessions(self) -> int:
+        """How many sessions of connections the store has."""
+        return sum(name.endswith(".in") for folder in os.listdir(self.temporary) for name in os.listdir(os.path.join(self.temporary, folder)))
 
-    def threads(self) -> int:
-        """How many threads the server has: one of its own, and one for each connection that it has accepted."""
-        return len(os.listdir(f"/proc/{self.process.pid}/task"))
+    def connections(self) -> int:
+        """How many connections the server has accepted. It has three other sockets."""
+        at = f"/proc/{self.process.pid}/fd"
+        return sum(os.readlink(os.path.join(at, name)).startswith("socket:") for name in os.listdir(at)) - 3
 
     def reported(self) -> str:
         """What the server has written to standard error."""

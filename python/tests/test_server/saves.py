@@ -101,13 +101,19 @@ SavedStore.save = measured
 """A server that writes the KiB of memory that a save needs to the file in the variable GROWTH."""
 FORGETFUL = f"""
 from b3store import relay, server_store
-relay.MAX_KEPT, relay.MAX_BEGUN, line, left = 1, 4, server_store.StoreProcess._line, [6]
-def line_or_fail(store):
+from b3store.sessions import Session
+relay.MAX_BEGUN, text, line, left = 4, Session.text, server_store.StoreProcess._line, [4, 1]
+def text_or_fail(session):
     left[0] -= 1
-    if left[0] in (0, -1):
+    if left[0] == 0:
+        raise MemoryError
+    return text(session)
+def line_or_fail(store):
+    left[1] -= left[0] <= 0
+    if left[1] == 0:
         raise MemoryError
     return line(store)
-server_store.StoreProcess._line = line_or_fail
+Session.text, server_store.StoreProcess._line = text_or_fail, line_or_fail
 {RUN_SERVER}
 """
 """A server that asks soon which uploads are open, and has no memory for one of them, and none for the next answer."""
@@ -240,7 +246,7 @@ def saves_what_was_answered(program: str) -> List[str]:
         state = _state(client)
         client.send(b"begin 0 5\nlimit 0 5")
         silent.send(f"fetchb 0 {address}\n".encode() * 3000)
-        is_served = wait_until(lambda: len(server.relays()) == 2)
+        is_served = wait_until(lambda: server.sessions() == 2)
         time.sleep(SHORTLY)
         server.signal()
         found = differences((is_served, True), (server.status(), 0), (server.reported(), "b3store.server: the server ends while 2 connections are open\n"))
@@ -259,7 +265,7 @@ def saves_while_commands_are_left(program: str) -> List[str]:
             while lines:
                 lines = lines[silent.socket.send(lines) :]
                 time.sleep(SHORTLY / 10)
-        found = differences((wait_until(lambda: len(server.relays()) == 2), True))
+        found = differences((wait_until(lambda: server.sessions() == 2), True))
         server.signal()
         told = "b3store.server: the server ends while 2 connections are open\n"
         found += differences((server.status(), 0), (server.reported(), told), (server.left(), []))
@@ -641,7 +647,7 @@ def serves_while_saves_fail(program: str) -> List[str]:
         client.ask("tenant 5000000")
         client.file(bytes(200_000))
         with server.client() as waiting:
-            found = differences((wait_until(lambda: server.threads() == 3), True))
+            found = differences((wait_until(lambda: server.connections() == 2), True))
             server.signal()
             found += differences((waiting.remaining(), b"busy\n"))
         with server.client() as late:
@@ -760,7 +766,7 @@ def no_memory_at_the_start(program: str) -> List[str]:
 
 
 def no_memory_for_uploads(program: str) -> List[str]:
-    """When memory runs out while the server reads which uploads are open, the process of the connection ends, and later answers are read right, also those of
+    """When memory runs out while the server reads which uploads are open, the connection ends, and later answers are read right, also those of
     the save."""
     with _folder() as folder, Running(program, "--save", folder, python=["-c", FORGETFUL]) as server:
         with server.client() as client:
@@ -769,7 +775,7 @@ def no_memory_for_uploads(program: str) -> List[str]:
             state = _state(client)
             client.send(b"begin 0 5\n" * 20)
             client.remaining()
-        found = differences((wait_until(lambda: not server.relays()), True))
+        found = differences((wait_until(lambda: not server.sessions()), True))
         with server.client() as client:
             found += differences((client.ask("begin 0 5")[:7], b"upload "), (client.ends(), b""))
         told = "b3store.server: a connection is closed: MemoryError: \n"

@@ -1,24 +1,20 @@
 """What a server finds in the answers of a session, however they are split into pieces; and parts of the server alone."""
 import os
 import random
-import socket
 import subprocess
 import sys
 import tempfile
-import threading
-import types
-from typing import Any, Callable, List, Set, Tuple
+from typing import Callable, List, Set, Tuple
 from unittest import mock
 
 from judging import differences, wait_until
-from running import PACKAGE, SECONDS, is_listening, is_running
+from running import PACKAGE, is_listening, is_running
 
 sys.path.insert(1, PACKAGE)
-from b3store import listening, server, server_store
+from b3store import listening, server_store
 from b3store.answers import Answers
 from b3store.files import lock_folder
 from b3store.server_store import StoreProcess
-from b3store.turns import Turns
 
 STREAMS = 300
 ADDRESS = "upload0123456789abcdef" * 3
@@ -90,56 +86,6 @@ def every_cut(program: str) -> List[str]:
     return found[:5]
 
 
-def turns(program: str) -> List[str]:
-    """Turns are given back to the first that waits, are not given after a time, and not at all once they are closed."""
-    del program
-    given = Turns(2)
-
-    def take(seconds: float) -> bool:
-        return given.wait(given.line_up(), seconds)
-
-    found = differences((take(0), True), (take(0), True), (take(0), False), (take(0.01), False))
-    given.give_back()
-    found += differences((take(0), True), (take(0), False))
-    given.give_back()
-    given.give_back()
-    found += differences((take(0), True), (take(0), True), (take(0), False))
-    given.give_back()
-    places = [given.line_up() for _ in range(3)]
-    found += differences((given.wait(places[0], 0), True), (given.wait(places[1], 0), False))
-    given.give_back()
-    found += differences((take(0), False), (given.wait(places[2], 0), True))
-    given.give_back()
-    given.close()
-    return found + differences((take(0), False))
-
-
-def turns_by_arrival(program: str) -> List[str]:
-    """Connections have their turns in the order in which they came, whichever of their threads runs first."""
-    del program
-    waiting: List[threading.Thread] = []
-    served: List[Any] = []
-
-    def start_late(run: Any, given: Any) -> None:
-        waiting.append(threading.Thread(target=run, args=given))
-
-    def serve(store: Any, relays: Any, connection: socket.socket, *_: Any) -> None:
-        served.append(connection)
-
-    with mock.patch.multiple(server, _thread=types.SimpleNamespace(start_new_thread=start_late), serve_connection=serve):
-        connections = server.Connections(None, server.Options(1, SECONDS, 0.0, False))  # type: ignore
-        pairs = [socket.socketpair() for _ in range(5)]
-        for one, _ in pairs:
-            connections.add(one)
-        for thread in reversed(waiting):
-            thread.start()
-        for thread in waiting:
-            thread.join(SECONDS)
-    for _, other in pairs:
-        other.close()
-    return differences((served == [one for one, _ in pairs], True), (connections.count(), 0))
-
-
 def ends_without_a_signal(program: str) -> List[str]:
     """A store whose process has ended is not usable, also before the main thread has asked for the status."""
     del program
@@ -185,8 +131,6 @@ SCANNING = (
     ("pieces of answers", pieces_of_answers),
     ("pieces that are whole answers", whole_answers),
     ("answers cut at every byte", every_cut),
-    ("turns", turns),
-    ("turns by arrival", turns_by_arrival),
     ("ends without a signal", ends_without_a_signal),
     ("sockets that are removed", removed_while_listening),
     ("folders of killed servers", folders_of_killed_servers),

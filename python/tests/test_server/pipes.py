@@ -1,0 +1,290 @@
+"""Clients that have the pipes of their sessions."""
+import array
+import contextlib
+import os
+import signal
+import socket
+import subprocess
+import sys
+import tempfile
+import threading
+import time
+from typing import Any, List
+
+from judging import SECONDS_TO_WAIT, differences, wait_until
+from lines import SHORTLY
+from running import CLEAN, PACKAGE, SECONDS, Client, Running, environment, is_running
+
+sys.path.insert(1, PACKAGE)
+from b3store import Client as PackageClient
+from b3store import Ended
+
+KEEPS = "b3store.server: a client keeps the pipes of a connection that has ended: its session lasts until it closes them\n"
+SHUT_DOWN = "b3store.server: the server ends while 1 connection is open\n"
+
+
+class Piped(Client):
+    """A connection whose session's pipes are here."""
+
+    def __init__(self, path: str) -> None:
+        super().__init__(path)
+        self.send(b"pipes\n")
+        found, others, _, _ = self.socket.recvmsg(100, 100, socket.MSG_CMSG_CLOEXEC)
+        assert found == b"pipes\n", found
+        self.pipes = array.array("i", b"".join(data for _, _, data in others))
+
+    def execute(self, line: bytes) -> bytes:
+        """The answer to a line that is sent through the pipes."""
+        os.write(self.pipes[0], line + b"\n")
+        return os.read(self.pipes[1], 1000)
+
+    def is_answered(self) -> bool:
+        """Whether a line is answered."""
+        with contextlib.suppress(BrokenPipeError):
+            return self.execute(b"stat") != b""
+        return False
+
+    def drop(self) -> None:
+        """Closes the pipes."""
+        while self.pipes:
+            os.close(self.pipes.pop())
+
+    def close(self) -> None:
+        """Closes all."""
+        self.drop()
+        super().close()
+
+
+def passed_pipes(program: str) -> List[str]:
+    """A session goes through its pipes, and its uploads that were begun over the socket are aborted at its end, unless they are kept. So are those of a first
+    line that comes in pieces. Those that were begun through the pipes are nobody's."""
+    found: List[str] = []
+    for words, left in ((), [2]), (("--keep-uploads",), [1, 2]):
+        with Running(program, *words) as server:
+            with Piped(server.path) as one:
+                found += differences((one.execute(b"tenant 5000"), b"tenant 0\n"), (one.ask("begin 0 3"), b"upload 0\n"), (one.ask("open 0 1024"), b"upload 1\n"))
+                found += differences((one.execute(b"begin 0 7"), b"upload 2\n"), (one.execute(b"putb 0 0 3\nabc"), b"held 3 all\n"), (one.ask("begin 7 3"), b"refused S1\n"))
+                found += differences((one.execute(b"seal 0")[:3], b"new"), (len(server.children()), 1))
+            with Client(server.path) as other:
+                found += differences((wait_until(lambda: other.uploads() == left), True))
+                found += differences((other.ends(), b""))
+            with Client(server.path) as slow:
+                for byte in b"pipes\n":
+                    slow.send(bytes([byte]))
+                    time.sleep(0.01)
+                found += differences((slow.line(), b"pipes\n"))
+            found += differences((wait_until(lambda: not server.sessions()), True), (server.end(), CLEAN))
+    return found
+
+
+def pipes_that_nobody_takes(program: str) -> List[str]:
+    """A client that asks for pipes and leaves, or half asks, or that reads the line without the pipes: its turn is free at once."""
+    with Running(program, "--sessions", "1", "--wait", "20") as server:
+        found, start = [], time.monotonic()
+        for text in (b"pipes\n", b"pip", b"", b"pipes\n" + b"begin 0 3\n" * 1000):
+            for _ in range(20):
+                with Client(server.path) as client:
+                    client.send(text)
+        with Client(server.path) as client:
+            client.send(b"pipes\n")
+            found += differences((client.socket.recv(100), b"pipes\n"))
+        with Client(server.path) as client:
+            found += differences((client.ask("tenants"), b"tenants 0\n"), (client.ends(), b""))
+        found += differences((time.monotonic() - start < SECONDS_TO_WAIT, True), (wait_until(lambda: not server.sessions()), True))
+        return found + differences((server.end(), CLEAN))
+
+
+def pipes_that_are_kept(program: str) -> List[str]:
+    """A client that closes its socket and keeps the pipes keeps its session and its turn, which is reported. Once it closes them, the turn is free, and its
+    uploads are aborted. It keeps no other client out, and not the end of the server."""
+    with Running(program, "--sessions", "2", "--wait", "1") as server:
+        with Client(server.path) as other:
+            kept = Piped(server.path)
+            found = differences((other.ask("tenant 5000"), b"tenant 0\n"), (kept.ask("begin 0 5"), b"upload 0\n"))
+            kept.socket.close()
+            found += differences((wait_until(lambda: server.reported() == KEEPS), True), (kept.execute(b"uploads 0")[:9], b"uploads 1"))
+            with Client(server.path) as late:
+                found += differences((late.remaining(), b"busy\n"))
+            kept.drop()
+            found += differences((wait_until(lambda: other.uploads() == []), True))
+            with Client(server.path) as late:
+                found += differences((late.ask("tenants"), b"tenants 1\n0 0 0 5000\n"), (late.ends(), b""))
+            found += differences((other.ends(), b""))
+        with contextlib.closing(Piped(server.path)) as again:
+            again.socket.close()
+            server.signal()
+            found += differences((server.status(), 0), (server.left(), []), (server.reported(), KEEPS + KEEPS + SHUT_DOWN))
+            return found + differences((again.is_answered(), False))
+
+
+def pipes_of_a_child(program: str) -> List[str]:
+    """A process that a client has started with its pipes keeps the session, until it ends."""
+    with Running(program, "--sessions", "1", "--wait", "1") as server:
+        with Piped(server.path) as client:
+            child = subprocess.Popen(["sleep", "60"], pass_fds=list(client.pipes))
+        with Client(server.path) as late:
+            found = differences((late.remaining(), b"busy\n"))
+        child.kill()
+        child.wait()
+        found += differences((wait_until(lambda: not server.sessions()), True))
+        with Client(server.path) as late:
+            found += differences((late.ask("tenants"), b"tenants 0\n"), (late.ends(), b""))
+        return found + differences((server.end()[::2], (0, [])))
+
+
+def wrong_lines_beside_pipes(program: str) -> List[str]:
+    """What is no line that begins an upload ends the connection, with a message: also `pipes` again. Other connections go on."""
+    lines = (b"pipes\n", b"stat\n", b"begin 0\n", b"begin 0 3 4\n", b"begin 0 -3\n", b"abort 0\n", b"begin 0 3\r\n", b"x" * 100, b"begin 0 " + b"9" * 21 + b"\n", b"\0\n")
+    with Running(program, "--sessions", "3") as server, Client(server.path) as other:
+        found = differences((other.ask("tenant 5000"), b"tenant 0\n"))
+        for line in lines:
+            with Piped(server.path) as client:
+                found += differences((client.ask("begin 0 5")[:7], b"upload "), (client.send(line), None), (client.remaining(), b""))
+                found += differences((client.execute(b"tenants")[:9], b"tenants 1"))
+            found += differences((wait_until(lambda: other.uploads() == []), True))
+        with Client(server.path) as both:
+            both.send(b"pipes\npipes\n")
+            found += differences((both.line(), b"pipes\n"), (both.remaining(), b""))
+        told = server.reported().splitlines()
+        found += differences((len(told), len(lines) + 1), ({line[:57] for line in told}, {"b3store.server: a connection is closed: its client has pi"}))
+        return found + differences((other.ends(), b""), (server.end()[::2], (0, [])))
+
+
+HELD = """
+import sys, time
+from b3store import Client
+store = Client(sys.argv[1])
+upload = store.start_upload(0, max_len=1 << 20)
+upload.write(bytes(1 << 20))
+print(upload.number, flush=True)
+while True:
+    store.begin(0, 5) if sys.argv[2] else time.sleep(60)
+"""
+"""A client that has an open upload, and begins others if it is told to."""
+
+
+def package_clients_that_are_killed(program: str) -> List[str]:
+    """All uploads that they began are aborted, whenever they are killed, and nothing else."""
+    with Running(program, "--sessions", "2") as server, Client(server.path) as other:
+        found = differences((other.ask(f"tenant {1 << 30}"), b"tenant 0\n"))
+        kept = other.number("begin 0 5")
+        for number in range(6):
+            words = [sys.executable, "-c", HELD, server.path, "more" if number else ""]
+            with subprocess.Popen(words, stdout=subprocess.PIPE, env=environment(server.temporary, {})) as client:
+                assert client.stdout
+                found += differences((client.stdout.readline()[:-1].isdigit(), True), (other.uploads()[0], kept), (len(other.uploads()) > 1, True))
+                time.sleep(0.05 * number)
+                client.kill()
+            found += differences((wait_until(lambda: other.uploads() == [kept]), True))
+        return found + differences((other.ends(), b""), (server.end(), CLEAN))
+
+
+def _ended(call: Any, *words: Any) -> bool:
+    try:
+        call(*words)
+    except Ended:
+        return True
+    return False
+
+
+def saves_beside_idle_clients(program: str) -> List[str]:
+    """A client that is idle when the server saves sends nothing any more; all that was answered is saved."""
+    with tempfile.TemporaryDirectory() as place:
+        folder = os.path.join(place, "saved")
+        with Running(program, "--save", folder, "--grace", "0") as server, PackageClient(server.path) as idle, PackageClient(server.path) as busy:
+            tenant = idle.tenant(1 << 30)
+            idle.file(tenant, b"idle")
+            answered: List[str] = []
+
+            def work() -> None:
+                with contextlib.suppress(Ended):
+                    while True:
+                        answered.append(busy.file(tenant, b"%d" % len(answered)).address)
+
+            worker = threading.Thread(target=work)
+            worker.start()
+            found = differences((wait_until(lambda: len(answered) > 50), True))
+            server.signal()
+            worker.join(SECONDS)
+            found += differences((worker.is_alive(), False), (server.status(SECONDS), 0), (_ended(idle.file, tenant, b"late"), True), (idle.alive, False))
+            found += differences((server.reported(), "b3store.server: the server ends while 2 connections are open\n"), (server.left(), []))
+        with Running(program, "--save", folder) as server, PackageClient(server.path) as store:
+            return found + differences((set(answered) <= set(store.list(tenant)), True), (store.stat().objects, len(answered) + 1))
+
+
+CHANGES = """
+import os, runpy
+from b3store import saved
+save = saved.SavedStore.save
+def save_late(*given):
+    os.write(int(os.environ["TOLD"]), b"s")
+    os.read(int(os.environ["GOING"]), 1)
+    text = save(*given)
+    os.write(int(os.environ["TOLD"]), b"e")
+    os.read(int(os.environ["GOING"]), 1)
+    return text
+saved.SavedStore.save = save_late
+runpy.run_module('b3store.server', run_name='__main__', alter_sys=True)
+"""
+
+
+def saves_beside_clients_that_stay(program: str) -> List[str]:
+    """A client that goes on while the store is saved changes it: it is saved again. One that doesn't stop is reported, and doesn't keep the server."""
+    found: List[str] = []
+    for changes in 1, 5:
+        (told, telling), (going, letting) = os.pipe(), os.pipe()
+        with tempfile.TemporaryDirectory() as place:
+            folder = os.path.join(place, "saved")
+            with _passing(program, folder, telling, going) as server, Piped(server.path) as client:
+                client.execute(b"tenant 5000")
+                server.signal()
+                os.close(telling)
+                saves = 0
+                while os.read(told, 1):
+                    os.write(letting, b"g")
+                    os.read(told, 1)
+                    if saves < changes:
+                        client.execute(b"limit 0 %d" % saves)
+                    saves += 1
+                    os.write(letting, b"g")
+                found += differences((saves, min(changes + 1, 3)), (server.status(), 0), (server.reported().count("\n"), 1 + (changes > 2)))
+            for end in told, going, letting:
+                os.close(end)
+            with Running(program, "--save", folder) as server, Client(server.path) as client:
+                found += differences((client.ask("tenants"), b"tenants 1\n0 0 0 %d\n" % (0 if changes == 1 else 1)))
+    return found
+
+
+def _passing(program: str, folder: str, telling: int, going: int) -> Running:
+    """A server that says before and after each save that it is there, and waits."""
+    for end in telling, going:
+        os.set_inheritable(end, True)
+    return Running(program, "--save", folder, "--grace", "0", python=["-c", CHANGES], closes=False, TOLD=str(telling), GOING=str(going))
+
+
+def ends_that_pipes_see(program: str) -> List[str]:
+    """When the server or the store is killed, clients with pipes see the end, also one that waits for an answer."""
+    found: List[str] = []
+    for kills_store in False, True:
+        with Running(program) as server, PackageClient(server.path) as client, Piped(server.path) as silent:
+            tenant, store = client.tenant(1 << 30), server.store()
+            address = client.upload(bytes(1 << 24), tenant).address
+            os.write(silent.pipes[0], f"fetchb 0 {address}\n".encode() * 10)
+            time.sleep(SHORTLY)
+            os.kill(store if kills_store else server.process.pid, signal.SIGKILL)
+            found += differences((server.status(), 3 if kills_store else -signal.SIGKILL), (wait_until(lambda store=store: not is_running(store)), True))
+            found += differences((_ended(client.stat), True), (_ended(client.begin, tenant, 5), True), (client.alive, False))
+    return found
+
+
+PIPES = (
+    ("pipes that are passed", passed_pipes),
+    ("pipes that nobody takes", pipes_that_nobody_takes),
+    ("pipes that are kept", pipes_that_are_kept),
+    ("pipes of a child", pipes_of_a_child),
+    ("wrong lines beside pipes", wrong_lines_beside_pipes),
+    ("clients of the package that are killed", package_clients_that_are_killed),
+    ("a save beside idle clients", saves_beside_idle_clients),
+    ("a save beside clients that stay", saves_beside_clients_that_stay),
+    ("ends that pipes see", ends_that_pipes_see),
+)
