@@ -8,11 +8,12 @@ import argparse
 import contextlib
 import errno
 import os
-import secrets
+import re
 import stat
 import sys
 from typing import Any, BinaryIO, Callable, Iterator, List, Optional, Tuple
 
+from . import __version__
 from .client import Client
 from .console import Progress, check_line, error_text, finish, one_line, report
 from .files import private
@@ -20,6 +21,8 @@ from .sessions import write_all
 from .values import MAX_NUMBER, MAX_UPLOAD_LEN, PART_LEN, Refused, check_address, check_number
 
 USAGE, MISSING = 2, 1
+MAX_IN_MEMORY = 1 << 26
+"""How many bytes of a file whose length isn't known are kept in memory."""
 MAX_LINKS = 40
 """The maximum number of links that are followed, as by the system."""
 EPILOG = """\
@@ -36,23 +39,43 @@ exit status: 0 done; 1 an object is missing, a file to put can't be read, or the
 def put(store: Client, words: Any) -> int:
     """Stores files, and prints a line for each."""
     tenant = tenant_of(store, words)
-    return worst(put_file(store, tenant, name) for name in words.files)
+    return worst(put_file(store, tenant, name, words.max_len) for name in words.files)
 
 
-def put_file(store: Client, tenant: int, name: str) -> int:
-    """Stores one file."""
+def put_file(store: Client, tenant: int, name: str, max_len: Optional[int]) -> int:
+    """Stores one file. One whose length isn't known, such as a pipe, is read to its end first, so that no more is reserved than it has; with a maximum, this is
+    reserved, and the file is stored as it is read."""
     try:
         if name == "-" and sys.stdin is None:
             raise OSError(errno.EBADF, "standard input is closed")
-        with open(0 if name == "-" else name, "rb", buffering=0, closefd=name != "-") as file:
+        with contextlib.ExitStack() as ending:
+            file = ending.enter_context(open(0 if name == "-" else name, "rb", buffering=0, closefd=name != "-"))
             status = os.fstat(file.fileno())
-            progress = Progress(name, status.st_size if stat.S_ISREG(status.st_mode) else None)
-            with contextlib.closing(progress):
-                filed = store.upload(file, tenant, progress=progress)
+            is_regular = stat.S_ISREG(status.st_mode)
+            if not is_regular and max_len is None:
+                file = ending.enter_context(read_ahead(file, name))
+            progress = ending.enter_context(contextlib.closing(Progress(name, status.st_size if is_regular else None)))
+            filed = store.upload(file, tenant, max_len=max_len, progress=progress)
     except (Refused, OSError) as fault:
         return miss(f"{name or repr(name)}: {error_text(fault)}")
     print(check_line(filed.address, name), flush=True)
     return 0
+
+
+def read_ahead(file: Any, name: str) -> Any:
+    """A file with all bytes of another one, in memory if they are few."""
+    import tempfile
+
+    copy, piece = tempfile.SpooledTemporaryFile(MAX_IN_MEMORY), file.read(PART_LEN)
+    with contextlib.ExitStack() as failing, contextlib.closing(Progress(name, None)) as progress:
+        failing.callback(copy.close)
+        while piece:
+            copy.write(piece)
+            progress(copy.tell())
+            piece = file.read(PART_LEN)
+        copy.seek(0)
+        failing.pop_all()
+    return copy
 
 
 def get(store: Client, words: Any) -> int:
@@ -135,7 +158,7 @@ def opened(name: str, mode: str, path: str, flags: int = 0) -> Any:
 @contextlib.contextmanager
 def replacing(path: str) -> Iterator[BinaryIO]:
     """A new file in the folder of a path, which gets this name once it is written."""
-    aside = os.path.join(os.path.dirname(path), f".{secrets.token_hex(8)}.part")
+    aside = os.path.join(os.path.dirname(path), f".{os.urandom(8).hex()}.part")
     try:
         with opened(aside, "xb", path) as file:
             give_rights(file.fileno(), path)
@@ -237,6 +260,24 @@ def rm_one(store: Client, tenant: int, address: str) -> int:
         return miss(f"{address}: {fault}")
 
 
+def open_tenant(store: Client, words: Any) -> int:
+    """Opens a tenant, and prints its number."""
+    print(store.tenant(words.limit))
+    return 0
+
+
+def set_limit(store: Client, words: Any) -> int:
+    """Changes the tenant's limit."""
+    store.limit(tenant_of(store, words), words.limit)
+    return 0
+
+
+def show_usage(store: Client, words: Any) -> int:
+    """Prints what the tenant uses and reserves, and its limit."""
+    print(*(f"{name} {value}" for name, value in store.usage(tenant_of(store, words))._asdict().items()))
+    return 0
+
+
 def show_stat(store: Client, _: Any) -> int:
     """Prints what the store contains."""
     print(*(f"{name} {value}" for name, value in store.stat()._asdict().items()))
@@ -298,6 +339,15 @@ def number_argument(text: str) -> int:
         raise argparse.ArgumentTypeError(f"{text!r} is not a number below 2^64") from None
 
 
+def size_argument(text: str) -> int:
+    """An argument that is a number of bytes, also in KiB, MiB, GiB or TiB: `512M`."""
+    found = re.fullmatch("([0-9]{1,20})([KMGT]?)", text)
+    value = int(found[1]) << {"": 0, "K": 10, "M": 20, "G": 30, "T": 40}[found[2]] if found else MAX_NUMBER + 1
+    if value > MAX_NUMBER:
+        raise argparse.ArgumentTypeError(f"{text!r} is not a size, such as 1000, 512M or 4G")
+    return value
+
+
 def range_argument(text: str) -> Tuple[int, int]:
     """An argument that is a range."""
     start, colon, length = text.partition(":")
@@ -306,43 +356,64 @@ def range_argument(text: str) -> Tuple[int, int]:
     return number_argument(start or "0"), number_argument(length) if length else MAX_UPLOAD_LEN
 
 
-def add_connection(parser: argparse.ArgumentParser) -> None:
-    """Adds the options that all commands have, before or after the command's name."""
+class Formatter(argparse.RawDescriptionHelpFormatter):
+    """The layout of a help. It is given its width: to find that, argparse would import much, at each start."""
+
+    def __init__(self, prog: str) -> None:
+        try:
+            width = os.get_terminal_size().columns
+        except OSError:
+            width = 80
+        super().__init__(prog, width=width - 2)
+
+
+def add_common(parser: argparse.ArgumentParser, has_tenant: bool) -> None:
+    """Adds the options that commands have before or after the command's name."""
     parser.add_argument("--socket", default=argparse.SUPPRESS, metavar="PATH", help="connect to this Unix-domain socket (default: B3STORE_SOCKET)")
-
-
-def add_command(commands: Any, work: Callable[[Client, Any], int], name: str, purpose: str, has_tenant: bool = True) -> argparse.ArgumentParser:
-    """Adds a command."""
-    parser: argparse.ArgumentParser = commands.add_parser(name, help=purpose, description=purpose[0].upper() + purpose[1:] + ".")
-    parser.set_defaults(work=work)
-    add_connection(parser)
     if has_tenant:
-        parser.add_argument("--tenant", type=number_argument, metavar="N", help="use this tenant (default: the first, opened with a limit of half of this machine's memory if there is none)")
-    return parser
+        parser.add_argument(
+            "-T", "--tenant", type=number_argument, default=argparse.SUPPRESS, metavar="N",
+            help="use this tenant (default: the first, opened with a limit of half of this machine's memory if there is none)",
+        )
+
+
+def add_command(commands: Any, work: Callable[[Client, Any], int], name: str, purpose: str, has_tenant: bool = True) -> Callable[..., Any]:
+    """Adds a command, and returns a function that adds an argument to it."""
+    parser = commands.add_parser(name, help=purpose, description=purpose[0].upper() + purpose[1:] + ".", formatter_class=Formatter)
+    parser.set_defaults(work=work, has_tenant=has_tenant)
+    add_common(parser, has_tenant)
+    return parser.add_argument  # type: ignore[no-any-return]
 
 
 def make_parser() -> argparse.ArgumentParser:
     """The parser of the command line."""
-    parser = argparse.ArgumentParser(
-        "b3store-client", description="Use the store of a running b3store server.", epilog=EPILOG, formatter_class=argparse.RawDescriptionHelpFormatter
-    )
-    add_connection(parser)
+    parser = argparse.ArgumentParser("b3store-client", description="Use the store of a running b3store server.", epilog=EPILOG, formatter_class=Formatter)
+    parser.add_argument("--version", action="version", version=f"b3store-client {__version__}")
+    add_common(parser, True)
     commands = parser.add_subparsers(required=True, dest="command", metavar="COMMAND")
-    putting = add_command(commands, put, "put", "store files, and print their addresses")
-    putting.add_argument("files", nargs="+", metavar="FILE", help="a file; - is standard input")
-    getting = add_command(commands, get, "get", "write an object's bytes")
-    getting.add_argument("address", type=address_argument, metavar="ADDRESS")
-    getting.add_argument("-o", "--output", metavar="FILE", help="write to this file (default: -, standard output)")
-    getting.add_argument("--follow", action="store_true", help="if this file is a link, write to what it leads to; otherwise the link is replaced")
-    getting.add_argument("--range", type=range_argument, default=(0, MAX_UPLOAD_LEN), metavar="FROM:LEN", help="write LEN bytes, starting at byte FROM; without LEN, all bytes from there on")
-    add_command(commands, has, "has", "print which of these objects the tenant holds, with their lengths").add_argument("addresses", nargs="+", type=address_argument, metavar="ADDRESS")
+    add = add_command(commands, put, "put", "store files, and print their addresses")
+    add("files", nargs="+", metavar="FILE", help="a file; - is standard input")
+    add("--max-len", type=size_argument, metavar="SIZE", help="reserve SIZE bytes, as 4G, and store the file as it is read (default for a pipe: read it first)")
+    add = add_command(commands, get, "get", "write an object's bytes")
+    add("address", type=address_argument, metavar="ADDRESS")
+    add("-o", "--output", metavar="FILE", help="write to this file (default: -, standard output)")
+    add("--follow", action="store_true", help="if this file is a link, write to what it leads to; otherwise the link is replaced")
+    add("--range", type=range_argument, default=(0, MAX_UPLOAD_LEN), metavar="FROM:LEN", help="write LEN bytes, starting at byte FROM; without LEN, all bytes from there on")
+    add = add_command(commands, has, "has", "print which of these objects the tenant holds, with their lengths")
+    add("addresses", nargs="+", type=address_argument, metavar="ADDRESS")
     add_command(commands, ls, "ls", "print the address and length of each object that the tenant holds")
-    add_command(commands, rm, "rm", "stop holding objects for the tenant").add_argument("addresses", nargs="+", type=address_argument, metavar="ADDRESS")
+    add = add_command(commands, rm, "rm", "stop holding objects for the tenant")
+    add("addresses", nargs="+", type=address_argument, metavar="ADDRESS")
+    add = add_command(commands, open_tenant, "tenant", "open a tenant, which can't be closed, and print its number", False)
+    add("limit", type=size_argument, metavar="LIMIT", help="how many bytes it may hold, as 512M or 4G")
+    add = add_command(commands, set_limit, "limit", "change the tenant's limit")
+    add("limit", type=size_argument, metavar="LIMIT", help="how many bytes it may hold, as 512M or 4G")
+    add_command(commands, show_usage, "usage", "print what the tenant uses and reserves, and its limit")
     add_command(commands, show_stat, "stat", "print what the store contains", False)
     add_command(commands, show_tenants, "tenants", "print what each tenant uses and reserves, and its limit", False)
-    journal = add_command(commands, show_journal, "journal", "print the journal's entries", False)
-    journal.add_argument("--from", dest="start", type=number_argument, default=0, metavar="N", help="start at entry N (default 0)")
-    journal.add_argument("--count", type=number_argument, default=MAX_NUMBER, metavar="N", help="print up to N entries")
+    add = add_command(commands, show_journal, "journal", "print the journal's entries", False)
+    add("--from", dest="start", type=number_argument, default=0, metavar="N", help="start at entry N (default 0)")
+    add("--count", type=number_argument, default=MAX_NUMBER, metavar="N", help="print up to N entries")
     return parser
 
 
@@ -359,6 +430,8 @@ def run(arguments: Optional[List[str]] = None) -> int:
     """Runs the program, and lets exceptions pass."""
     parser = make_parser()
     words = parser.parse_args(arguments)
+    if "tenant" in words and not words.has_tenant:
+        parser.error(f"{words.command} takes no --tenant")
     with connect(parser, words) as store:
         try:
             return int(words.work(store, words))

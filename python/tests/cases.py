@@ -51,6 +51,8 @@ CASES = (
     ("commands that take too long", served.commands_that_take_too_long),
     *hostile.CASES,
     ("the command line", programs.puts_and_gets),
+    ("tenants of the command line", programs.tenants_and_limits),
+    ("pipes of the command line", programs.reserves_no_more_than_it_reads),
     ("names of the command line", programs.names_of_all_bytes),
     ("outputs of the command line", programs.outputs_of_all_kinds),
     ("messages of the command line", programs.says_what_is_wrong),

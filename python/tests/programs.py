@@ -3,6 +3,7 @@ import contextlib
 import os
 import pty
 import re
+import resource
 import select
 import signal
 import stat
@@ -14,9 +15,11 @@ import unittest.mock
 
 from bridge import Bridge
 from hostile import listen_to_signals
-from shared import ABC, EMPTY, FOUR, SECONDS, TOP, differences
+from shared import ABC, EMPTY, FOUR, SECONDS, TOP, differences, wait_until
 from served import server_of
 from transfers import PART_LEN, content_of
+import b3store
+from b3store import Client
 from b3store.__main__ import output_to
 from b3store.values import half_of_memory
 
@@ -73,6 +76,57 @@ def puts_and_gets():
         status, out, err = client("journal")
         found += differences((out.splitlines()[0], f"tenant 0 {half_of_memory()}".encode()), (client("journal", "--from", "1", "--count", "2"), (0, b"\n".join(out.splitlines()[1:3]) + b"\n", "")))
         return found + differences((run(["--socket", server.path, "has", ABC])[0], 0), (run(["has", "--socket", server.path, ABC])[0], 0), (sorted(os.listdir(place)), ["a\\b", "copy", "large"]))
+
+
+def tenants_and_limits():
+    """Tenants are opened and limited by size, and named before or after the command."""
+    with Bridge() as server:
+        socket, found = ["--socket", server.path], []
+        for words, status, out, err in (
+            (["tenant", "4K"], 0, "0\n", ""), (["tenant", "1000"], 0, "1\n", ""), (["tenant", "64T"], 0, "2\n", ""), (["tenant", "0"], 0, "3\n", ""),
+            (["tenant", "65T"], 1, "", "S3"), (["-T", "1", "usage"], 0, "used 0 reserved 0 limit 1000\n", ""), (["usage", "--tenant=1"], 0, "used 0 reserved 0 limit 1000\n", ""),
+            (["limit", "-T1", "2M"], 0, "", ""), (["usage", "-T", "1"], 0, f"used 0 reserved 0 limit {2 << 20}\n", ""), (["-T", "0", "usage", "-T", "3"], 0, "used 0 reserved 0 limit 0\n", ""),
+            (["-T", "1", "put", __file__], 0, None, ""), (["-T", "1", "limit", "3"], 1, "", "S4"), (["put", "-T", "3", __file__], 1, "", "S6"), (["usage", "-T", "9"], 1, "", "S1"),
+            (["-T", "1", "stat"], 2, "", "stat takes no --tenant"), (["stat", "-T", "1"], 2, "", "-T"), (["-T", "x", "ls"], 2, "", "not a number"), (["tenant"], 2, "", "LIMIT"),
+            *((["tenant", limit], 2, "", "is not a size") for limit in ("-1", "", "x", "4k", "1.5G", "99999999999999999999", "99999999T", "\u0663", "4K\n")),
+            (["--version"], 0, f"b3store-client {b3store.__version__}\n", ""), (["limit", "5T"], 0, "", ""), (["usage"], 0, f"used 0 reserved 0 limit {5 << 40}\n", ""),
+        ):
+            got = run([*socket, *words])
+            found += differences(((words, got[0]), (words, status)), ((words, got[1].decode() if out is not None else None), (words, out)), (err in got[2] and "Traceback" not in got[2], True))
+            found += differences((got[2] == "", err == ""))
+        return found
+
+
+def reserves_no_more_than_it_reads():
+    """What is put from a pipe reserves nothing until it is read, and then its length; with a maximum, that is reserved, and nothing is kept beside the store."""
+    with Bridge() as server, Client(server.path) as store, tempfile.TemporaryDirectory() as place:
+        tenant, found, content = store.tenant(1 << 30), [], content_of(9 * PART_LEN + 5)
+        for words, reserved in ([], 0), (["--max-len", "32M"], 32 << 20):
+            command = [sys.executable, "-m", "b3store", "--socket", server.path, "put", *words, "-"]
+            environment = {**os.environ, "PYTHONPATH": PACKAGE, "TMPDIR": place}
+            with subprocess.Popen(command, stdin=subprocess.PIPE, stdout=subprocess.PIPE, env=environment) as put:
+                put.stdin.write(content[: 8 * PART_LEN])
+                put.stdin.flush()
+                found += differences((wait_until(lambda: bool(store.uploads(tenant)), 1), reserved > 0), (store.usage(tenant).reserved, reserved), (os.listdir(place), []))
+                put.stdin.write(content[8 * PART_LEN :])
+                put.stdin.close()
+                address = put.stdout.read().decode()[:64]
+            found += differences((put.returncode, 0), (store.fetch(tenant, address) == content, True), (store.usage(tenant).reserved, 0))
+        found += differences((run(["--socket", server.path, "put", "--max-len", "2M", "-"], content)[::2], (1, "b3store: -: F4: the part ends past the upload's bound\n")))
+        store.limit(tenant, len(content) + 2000)
+        found += differences((run(["--socket", server.path, "put", "-"], bytes(3000))[::2], (1, "b3store: -: S6: the tenant has too few bytes left (free 2000)\n")))
+        found += differences((run(["--socket", server.path, "put", "--max-len", "1G", "-"], b"abc")[0], 1))
+        return found + differences((store.uploads(tenant), []), (len(store.list(tenant)), 1)) + keeps_on_a_full_disk(server, place)
+
+
+def keeps_on_a_full_disk(server, place):
+    """What doesn't fit into memory is kept in a file, for which the disk may have no room."""
+    def limited():
+        resource.setrlimit(resource.RLIMIT_FSIZE, (1 << 20, resource.RLIM_INFINITY))
+
+    words, content = [sys.executable, "-m", "b3store", "--socket", server.path, "put", "-"], bytes((64 << 20) + 1)
+    ran = subprocess.run(words, input=content, capture_output=True, timeout=SECONDS, env={**os.environ, "PYTHONPATH": PACKAGE, "TMPDIR": place}, preexec_fn=limited)
+    return differences((ran.returncode, 1), (ran.stdout, b""), (ran.stderr, b"b3store: -: file too large\n"), (os.listdir(place), []))
 
 
 def names_of_all_bytes():
