@@ -150,31 +150,23 @@ class Commands:
     def fetch_to(
         self, tenant: int, address: str, target: int, offset: int = 0, length: int = MAX_UPLOAD_LEN, seconds: Optional[float] = None
     ) -> int:
-        """Writes up to `length` bytes of an object, starting at `offset`, to the descriptor of a file, a pipe or a socket, and returns how many. The system
-        moves them if it can, so that Python copies none. Bytes that the descriptor has no room for are read into memory before this waits for room, so
-        other commands can run meanwhile. The descriptor's mode isn't changed: bytes for a socket in blocking mode are copied. Raises OSError if it can't be
-        written to, TimeoutError if it has no room for `seconds`. Refusals: S1, S12."""
+        """Writes up to `length` bytes of an object, starting at `offset`, to the descriptor of a file, a pipe or a socket, and returns how many. Other commands
+        can run while this waits for room. The descriptor's mode isn't changed. Raises OSError if it can't be written to, TimeoutError if it has no room for
+        `seconds`. Refusals: S1, S12."""
         offset, length = check_number("offset", offset), check_number("length", length)
         target, seconds = check_number("target", target, 0, MAX_DESCRIPTOR), check_seconds("seconds", seconds)
         with contextlib.ExitStack() as ending:
             other, first = not_blocking(target, ending), offset
             while True:
                 wanted = min(PART_LEN, length)
-                count, rest, fault = self._move(tenant, address, offset, wanted, other)
-                if fault is not None:
-                    raise fault
+                content = self.fetch(tenant, address, offset, wanted)
                 if other is None:
-                    write_slowly(target, rest, seconds)
+                    write_slowly(target, content, seconds)
                 else:
-                    write_all(other, rest, seconds)
-                offset, length = offset + count, length - count
-                if count < wanted or length == 0:
+                    write_all(other, content, seconds)
+                offset, length = offset + len(content), length - len(content)
+                if len(content) < wanted or length == 0:
                     return offset - first
-
-    def _move(self, tenant: int, address: str, offset: int, length: int, target: Optional[int]) -> Tuple[int, bytes, Optional[OSError]]:
-        """Moves bytes of an object to a descriptor that doesn't block. Returns what `Session.move` does."""
-        line = fetch_line(tenant, address, offset, length)
-        return self._in_turn(lambda session: session.move(line, length, target))
 
     def ranges(self, tenant: int, address: str, length: int = RANGE_LEN) -> Iterator[bytes]:
         """Yields an object's bytes in ranges of `length`. Other commands can run between two of them. Refusals: S1, S12."""

@@ -1,6 +1,5 @@
 """Sessions: connections to a store, each used by one thread at a time, and the rule that a broken one is never used again."""
 import contextlib
-import errno
 import fcntl
 import itertools
 import os
@@ -26,9 +25,6 @@ MAX_AHEAD = 8
 MAX_AHEAD_LINES = 72
 """How many objects are forgotten before the first one's answer is read. All their answers fit any pipe, too."""
 
-SECONDS_FOR_ROOM = 0.02
-"""How long a session waits, in all, for a descriptor that bytes are moved to."""
-
 LEAST_ROOM = select.PIPE_BUF
 """How many bytes a descriptor takes without waiting once it can be written to."""
 
@@ -39,21 +35,6 @@ Value = TypeVar("Value")
 
 Kinds = Union[str, Tuple[str, ...]]
 """The first word that an answer must have; or several, one of which it must have."""
-
-
-_splice: Optional[Callable[[int, int, int], int]] = getattr(os, "splice", None)
-
-
-def splice(source: int, target: int, count: int) -> Optional[int]:
-    """Moves up to `count` bytes within the kernel, and returns how many: 0 at the end of the source, None if the system can't with these descriptors."""
-    if _splice is None:
-        return None
-    try:
-        return _splice(source, target, count)
-    except OSError as error:
-        if error.errno in (errno.EINVAL, errno.ENOSYS):
-            return None
-        raise
 
 
 def set_pipe_size(pipe: Any, size: int) -> None:
@@ -128,16 +109,12 @@ class Session:
         """The session for the commands that begin uploads."""
         return self
 
-    def has_answer(self, seconds: Optional[float]) -> bool:
-        """Whether an answer arrives within some time."""
-        poll = select.poll()
-        poll.register(self._reading, select.POLLIN)
-        return bool(poll.poll(None if seconds is None else 1000 * seconds))
-
     def is_at_rest(self) -> bool:
         """Whether the other side has neither closed the connection nor sent anything. No answer may be due."""
         try:
-            return not self.has_answer(0)
+            poll = select.poll()
+            poll.register(self._reading, select.POLLIN)
+            return not poll.poll(0)
         except OSError:
             return False
 
@@ -247,66 +224,6 @@ class Session:
         if got < count:
             raise self._ended()
         return count
-
-    def move(self, line: str, max_len: int, target: Optional[int]) -> Tuple[int, bytes, Optional[OSError]]:
-        """Sends a command that is answered by up to `max_len` raw bytes, and moves them to a descriptor that doesn't block. Returns how many the answer
-        has; those that are read but not written, because the descriptor had no room for a moment, or there is none; and the error if it can't be written
-        to. The answer is always read to its end."""
-        self.write(line.encode("ascii") + b"\n")
-        got = self._read_some(len(b"bytes %d\n" % max_len))
-        while b"\n" not in got:
-            got = self._longer(got)
-        head, _, first = got.partition(b"\n")
-        count = parse_number(self._checked("bytes", head.decode("ascii").split(" ")))
-        if not len(first) <= count <= max_len:
-            raise ValueError(f"{count} bytes instead of {max_len}")
-        return (count, *self._move_rest(first, count - len(first), target))
-
-    def _move_rest(self, first: bytes, left: int, target: Optional[int]) -> Tuple[bytes, Optional[OSError]]:
-        """Moves some bytes that were read and `left` others, and returns those that the descriptor had no room for, and its fault."""
-        fault, source, end = None, self._reading.fileno(), None
-        try:
-            while left > 0 and not first and target is not None:
-                try:
-                    moved = splice(source, target, left)
-                    if moved == 0:
-                        raise self._ended()
-                    if moved is None:
-                        break
-                    left -= moved
-                except BlockingIOError:
-                    end = end or time.monotonic() + SECONDS_FOR_ROOM
-                    if not can_write(target, max(0, end - time.monotonic())):
-                        break
-                    # it may be the source that has no bytes: for a pipe the system waits at neither end
-                    self.has_answer(None)
-        except OSError as error:
-            if error.errno is None:
-                raise
-            fault = error
-        try:
-            rest = first + self._reading.read(left) if left else first
-        except OSError as error:
-            raise self._broken(error) from None
-        if len(rest) < len(first) + left:
-            raise self._ended()
-        return rest, fault
-
-    def _longer(self, line: bytes) -> bytes:
-        """Reads one more byte of a line."""
-        if len(line) >= MAX_LINE_LEN:
-            raise ValueError("a line is too long")
-        return line + self._read_some(1)
-
-    def _read_some(self, count: int) -> bytes:
-        """Reads up to `count` bytes that are there, and none ahead of them."""
-        try:
-            got = os.read(self._reading.fileno(), count)
-        except OSError as fault:
-            raise self._broken(fault) from None
-        if not got:
-            raise self._ended()
-        return got
 
     def _broken(self, fault: OSError) -> Exception:
         """What to raise for an error at an end: the other side has ended. One without a number isn't the system's: a signal's handler has raised it."""

@@ -163,10 +163,6 @@ class Store(Transfers):
     def _fill(self, tenant: int, address: str, view: memoryview, offset: int) -> None:
         self.fetch_into(tenant, address, view, offset)
 
-    def _move(self, tenant: int, address: str, offset: int, length: int, target: Optional[int]) -> Tuple[int, bytes, Optional[OSError]]:
-        content = self.fetch(tenant, address, offset, length)
-        return len(content), content, None
-
     def _begin(self, word: str, tenant: int, length: int) -> int:
         number = U64(NONE)
         at, begin = ctypes.byref(number), self._small.b3store_begin if word == "begin" else self._small.b3store_begin_open

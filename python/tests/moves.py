@@ -9,11 +9,10 @@ import threading
 import time
 import tty
 
-from bridge import client_of_a_server, over_both
+from bridge import over_both
 from served import server_of
 from shared import FOUR, Interrupted, alarms, differences, ended, raised, refusal
-from b3store import Client, Refused, Store
-from b3store import sessions
+from b3store import Client, Refused
 
 LENGTH = 1000003
 """No whole number of ranges."""
@@ -47,25 +46,23 @@ def to_a_slow_socket(store, content, address):
     return found
 
 
-def writes_to_descriptors():
-    """With the system's way to move bytes and without it, and from this process; what can't be written to leaves the store as it is."""
-    content, found, splice = os.urandom(LENGTH), [], sessions._splice
-    for make, way in (client_of_a_server, splice), (client_of_a_server, None), (Store, splice):
-        sessions._splice = way
-        try:
-            with make() as store, open("/dev/full", "wb") as full, open(os.devnull, "rb") as readable:
-                address = store.upload(content, store.tenant()).address
-                found += to_files(store, content, address) + to_a_slow_socket(store, content, address)
-                reading, broken = os.pipe()
-                os.close(reading)
-                for target, fault in (full.fileno(), OSError), (readable.fileno(), OSError), (broken, BrokenPipeError), (1 << 20, OSError), ("1", TypeError):
-                    found += differences((raised(store.fetch_to, 0, address, target), fault))
-                os.close(broken)
-                found += differences((raised(store.fetch_to, 0, address, 1, -1), ValueError), (raised(store.fetch_to, 0, address, 1 << 64), ValueError), (raised(store.open, 0, address, 1 << 63), ValueError), (raised(lambda: store.fetch_to(0, address, 1, seconds=10 ** 400)), ValueError), (refusal(store.fetch_to, 0, FOUR, 1), ("S12", None)), (refusal(store.fetch_to, 0, FOUR, 1, 0, 0), ("S12", None)))
-                found += differences((raised(store.fetch_to, 1, address, 1), Refused), (store.fetch(0, address) == content, True))
-        finally:
-            sessions._splice = splice
-    return found
+@over_both
+def writes_to_descriptors(store):
+    """What can't be written to leaves the store as it is."""
+    content = os.urandom(LENGTH)
+    with open("/dev/full", "wb") as full, open(os.devnull, "rb") as readable:
+        address = store.upload(content, store.tenant()).address
+        found = to_files(store, content, address) + to_a_slow_socket(store, content, address)
+        reading, broken = os.pipe()
+        os.close(reading)
+        for target, fault in (full.fileno(), OSError), (readable.fileno(), OSError), (broken, BrokenPipeError), (1 << 20, OSError), ("1", TypeError):
+            found += differences((raised(store.fetch_to, 0, address, target), fault))
+        os.close(broken)
+        for words in (0, address, 1, -1), (0, address, 1 << 64):
+            found += differences((raised(store.fetch_to, *words), ValueError))
+        found += differences((raised(store.open, 0, address, 1 << 63), ValueError), (raised(lambda: store.fetch_to(0, address, 1, seconds=10 ** 400)), ValueError))
+        found += differences((refusal(store.fetch_to, 0, FOUR, 1), ("S12", None)), (refusal(store.fetch_to, 0, FOUR, 1, 0, 0), ("S12", None)))
+        return found + differences((raised(store.fetch_to, 1, address, 1), Refused), (store.fetch(0, address) == content, True))
 
 
 def ends_within_an_object():
@@ -77,25 +74,6 @@ def ends_within_an_object():
                 found += [] if ended(store.fetch_to, 0, FOUR, nowhere.fileno()) else [f"{answer!r}: the store goes on"]
                 found += differences((store.alive, False))
     return found
-
-
-def waits_for_a_slow_store():
-    """A store that is slow is waited for, and not asked again and again, where its bytes go into a pipe."""
-    found, calls, splice = [], [], sessions._splice
-
-    def counted(*words):
-        calls.append(words)
-        return splice(*words)
-
-    reading, writing = os.pipe()
-    with open(reading, "rb") as pipe, server_of((b"bytes 9000\n", bytes(3000), bytes(3000), bytes(3000)), None) as path, Client(path) as store:
-        sessions._splice = splice and counted
-        try:
-            found += differences((store.fetch_to(0, FOUR, writing, 0, 9000), 9000))
-        finally:
-            sessions._splice = splice
-            os.close(writing)
-        return found + differences((pipe.read(), bytes(9000)), (len(calls) < 100, True))
 
 
 def ends_of(make):
@@ -138,5 +116,4 @@ CASES = (
     ("the mode of a descriptor that is written to", keeps_the_mode),
     ("objects written to descriptors", writes_to_descriptors),
     ("stores that end within an object", ends_within_an_object),
-    ("objects from a slow store", waits_for_a_slow_store),
 )

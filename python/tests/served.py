@@ -302,7 +302,7 @@ def interrupts_at_any_moment():
                 kept = 3 - store._free.qsize()
                 store._give_back(store._all[:kept])
                 found += differences((kept, 0))
-            store._in_turn = lambda _: (PART_LEN, b"", None)
+            store.fetch = lambda *_: bytes(PART_LEN)
             for number in range(1000):
                 interrupted_calls(lambda: store.fetch_to(0, ABC, sink), 0.0001 + number / 10000000)
                 found += differences((os.get_blocking(sink), True))
