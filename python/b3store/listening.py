@@ -6,7 +6,7 @@ import re
 import socket
 import stat
 import time
-from typing import Callable, Iterator, List, Optional, Tuple
+from typing import Callable, List, Optional
 
 from .files import FolderInUse, lock_folder
 from .values import StoreError
@@ -30,45 +30,16 @@ class Listener:
 
     def __init__(self, listening: socket.socket, path: Optional[str] = None) -> None:
         self.socket = listening
-        self.name = path or address_text(listening)
-        self._path = path
-        self._identity = identity(path) if path else None
+        self.name = path or os.fsdecode(listening.getsockname())
+        self._path, self._status = path, os.lstat(path) if path else None
 
     def close(self) -> None:
         """Removes the socket's file if the path still names it, and closes the socket. While it listens, no other server replaces the file."""
-        if self._path and self._identity == identity(self._path):
-            with contextlib.suppress(OSError):
+        with contextlib.suppress(OSError):
+            if self._path and self._status and os.path.samestat(self._status, os.lstat(self._path)):
                 os.unlink(self._path)
         self._path = None
         self.socket.close()
-
-
-def identity(path: str) -> Optional[Tuple[int, int]]:
-    """The device and inode of a file, or None if there is no file."""
-    try:
-        found = os.lstat(path)
-    except OSError:
-        return None
-    return found.st_dev, found.st_ino
-
-
-def address_text(listening: socket.socket) -> str:
-    """A socket's path."""
-    address = listening.getsockname()
-    return os.fsdecode(address) if isinstance(address, str) else repr(address)
-
-
-@contextlib.contextmanager
-def folder_lock(path: str) -> Iterator[None]:
-    """Locks the folder of a path, so that only one server at a time replaces a stale socket in it. Other programs lock folders for as long as they run."""
-    try:
-        folder = lock_folder(os.path.dirname(path) or ".", SECONDS_TO_LOCK)
-    except FolderInUse:
-        raise ListenError(f"cannot listen on {path}: its folder is in use by another server or a backup") from None
-    try:
-        yield
-    finally:
-        os.close(folder)
 
 
 def remove_stale(path: str) -> None:
@@ -90,23 +61,23 @@ def remove_stale(path: str) -> None:
 
 
 def listen_at(path: str) -> Listener:
-    """Listens on a Unix-domain socket that only this user can connect to."""
-    listening = socket.socket(socket.AF_UNIX, socket.SOCK_STREAM)
-    try:
-        with folder_lock(path):
+    """Listens on a Unix-domain socket that only this user can connect to. Its folder is locked meanwhile, so that only one server at a time replaces a stale
+    socket. Other programs lock folders for as long as they run."""
+    with contextlib.ExitStack() as ending, contextlib.ExitStack() as failing:
+        try:
+            ending.callback(os.close, lock_folder(os.path.dirname(path) or ".", SECONDS_TO_LOCK))
             remove_stale(path)
-            before = os.umask(0o177)
-            try:
-                listening.bind(path)
-            finally:
-                os.umask(before)
+            listening = failing.enter_context(socket.socket(socket.AF_UNIX, socket.SOCK_STREAM))
+            ending.callback(os.umask, os.umask(0o177))
+            listening.bind(path)
             listening.listen(BACKLOG)
-        return Listener(listening, path)
-    except (OSError, ListenError) as error:
-        listening.close()
-        if isinstance(error, ListenError):
-            raise
-        raise ListenError(f"cannot listen on {path}: {error.strerror or error}") from None
+            listener = Listener(listening, path)
+        except FolderInUse:
+            raise ListenError(f"cannot listen on {path}: its folder is in use by another server or a backup") from None
+        except OSError as error:
+            raise ListenError(f"cannot listen on {path}: {error.strerror or error}") from None
+        failing.pop_all()
+        return listener
 
 
 def inherited() -> List[Listener]:

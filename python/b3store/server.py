@@ -36,10 +36,9 @@ from .relay import Connection
 from .saved import SavedStore, SaveError, reason_of
 from .server_store import SECONDS_OF_SILENCE, StoreProcess, remove_left_folders, status_text
 from .sessions import can_write
-from .values import StoreError, half_of_memory
+from .values import MAX_SESSIONS, StoreError, half_of_memory
 
 NAME = "b3store.server"
-MAX_SESSIONS = 64
 MAX_WAITING = 1024
 """The maximum number of connections that wait for a turn. Others stay in the queues of the listening sockets."""
 MAX_READS = 16
@@ -132,22 +131,16 @@ class Connections:
             # also those that idle threads were about to serve
             while self._waiting:
                 send_busy(self._waiting.popleft()[0])
-        self._each(Connection.end)
-        self._wait_for_ends(SECONDS_TO_CUT, tick, self.count)
+            served = list(self._served)
         # a client that sent much ahead and reads nothing may have commands left
-        self._each(Connection.cut)
-        self._wait_for_ends(SECONDS_FOR_LAST, tick, lambda: sum(not connection.has_pipes for connection in list(self._served)))
-
-    def _each(self, work: Callable[[Connection], None]) -> None:
-        for connection in list(self._served):
-            work(connection)
-
-    @staticmethod
-    def _wait_for_ends(seconds: float, tick: Callable[[], None], count: Callable[[], int]) -> None:
-        end = time.monotonic() + seconds
-        while count() and time.monotonic() < end:
-            tick()
-            time.sleep(SECONDS_BETWEEN_LOOKS)
+        for work, seconds in (Connection.end, SECONDS_TO_CUT), (Connection.cut, SECONDS_FOR_LAST):
+            for connection in served:
+                work(connection)
+            end = time.monotonic() + seconds
+            while self._served.intersection(served) and time.monotonic() < end:
+                tick()
+                time.sleep(SECONDS_BETWEEN_LOOKS)
+            served = [connection for connection in served if not connection.has_pipes]
 
     def _work(self) -> None:
         """Serves one connection after another."""
@@ -219,7 +212,7 @@ class Server:
                 return 3
             if self._deadline is None and time.monotonic() >= self._next_save:
                 self._stop()
-            if self._is_over():
+            if self._deadline is not None and (time.monotonic() >= self._deadline or not self._connections.count()):
                 status = self._end()
                 if status is not None:
                     return status
@@ -238,9 +231,6 @@ class Server:
         """What is lost with the store."""
         return "everything in it is lost" + (", except for the last save" if self._saved else "")
 
-    def _is_over(self) -> bool:
-        return self._deadline is not None and (time.monotonic() >= self._deadline or not self._connections.count())
-
     def _end(self) -> Optional[int]:
         """Ends the store, and returns the exit status; None if clients are served again, since the store can't be saved."""
         cut = self._connections.count()
@@ -250,7 +240,7 @@ class Server:
         if not is_saved and self._keeps_running():
             return None
         status = self._store.close()
-        if self._store.is_cut():
+        if self._store.timed.are_cut:
             report(f"the store did not answer for {SECONDS_OF_SILENCE:.0f} s, and was killed; {self._lost()}")
         elif status:
             report(f"the store ended with {status_text(status)}")
@@ -263,7 +253,7 @@ class Server:
             return False
         report(f"the server keeps running, and tries again in {SECONDS_BETWEEN_SAVES:.0f} s; after a further signal it ends even if the save fails")
         self._last_save, self._next_save = min(self._last_save, now + SECONDS_FOR_SAVES), now + SECONDS_BETWEEN_SAVES
-        self._store.limit_silence(False)
+        self._store.timed.ends_since = math.inf
         self._deadline = None
         self._let_in()
         return True
@@ -271,7 +261,7 @@ class Server:
     def _save(self, saved: SavedStore) -> bool:
         """Ends the clients, tries to save the store, and returns whether it is saved. A signal doesn't interrupt it."""
         self._connections.end_all(self._more_time)
-        self._store.limit_silence(True)
+        self._store.timed.ends_since = time.monotonic()
         try:
             text = self._saved_text(saved)
         except SaveError as error:
@@ -296,8 +286,7 @@ class Server:
         return text
 
     def _read_signals(self) -> None:
-        numbers = self._signals.recv(64)
-        asked = sum(number in ENDING for number in numbers)
+        asked = sum(number in ENDING for number in self._signals.recv(64))
         if asked and self._next_save < math.inf:
             self._last_save = time.monotonic()
         if asked and self._deadline is None:
@@ -322,15 +311,13 @@ class Server:
         self._connections.close_waiting(math.inf)
 
     def _accept(self, listener: Listener) -> None:
-        if self._deadline is not None:
-            # a signal came with the connection
-            return
         if self._connections.is_full():
             time.sleep(SECONDS_BETWEEN_LOOKS)
             return
         try:
-            connection, _ = listener.socket.accept()
-            self._connections.add(connection)
+            # a signal may have come with the connection
+            if self._deadline is None:
+                self._connections.add(listener.socket.accept()[0])
         except (BlockingIOError, ConnectionAbortedError):
             return
         except (OSError, MemoryError) as error:

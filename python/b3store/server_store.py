@@ -3,6 +3,7 @@ import contextlib
 import errno
 import io
 import itertools
+import math
 import os
 import re
 import resource
@@ -13,7 +14,7 @@ import subprocess
 import tempfile
 import threading
 import time
-from typing import Any, Callable, Iterator, List, NamedTuple, Optional, Set
+from typing import Any, Iterator, List, NamedTuple, Optional, Set
 
 from .files import FolderInUse, lock_folder
 from .sessions import Session, Sessions, set_pipe_size
@@ -48,7 +49,11 @@ class Pipes(NamedTuple):
 
     def has_ended(self) -> bool:
         """Whether the store has closed its ends, which it does when it has ended the session. No process may have the other ends any more."""
-        return not has_reader(self.names[0])
+        try:
+            os.close(os.open(self.names[0], os.O_WRONLY | os.O_NONBLOCK))
+        except OSError as error:
+            return error.errno in (errno.ENXIO, errno.ENOENT)
+        return False
 
     def remove_names(self) -> None:
         """Removes the names, once the session has ended."""
@@ -57,60 +62,32 @@ class Pipes(NamedTuple):
                 os.remove(name)
 
 
-def has_reader(name: str) -> bool:
-    """Whether a process reads a named pipe."""
-    try:
-        os.close(os.open(name, os.O_WRONLY | os.O_NONBLOCK))
-    except OSError as error:
-        return error.errno not in (errno.ENXIO, errno.ENOENT)
-    return True
-
-
 def status_text(status: int) -> str:
     """An exit status in words."""
-    if status >= 0:
-        return f"status {status}"
-    try:
-        return f"status {status}, killed by {signal.Signals(-status).name}"
-    except ValueError:
-        return f"status {status}, killed by signal {-status}"
-
-
-def pipe_size(sessions: int) -> int:
-    """The capacity of each of the two pipes of each session: a power of two."""
-    share = min(MAX_PIPE_BYTES, MAX_PIPES_BYTES // (2 * sessions))
-    return 1 << (share.bit_length() - 1)
+    names = {-number: number.name for number in signal.Signals}
+    return f"status {status}" + (f", killed by {names.get(status, f'signal {-status}')}" if status < 0 else "")
 
 
 def remove_left_folders() -> None:
     """Removes the temporary folders that killed servers of this user have left: no process has locked them, some time after they were made."""
     room = tempfile.gettempdir()
-    for name in os.listdir(room):
-        if name.startswith(FOLDER_PREFIX):
-            with contextlib.suppress(OSError, FolderInUse):
-                remove_left_folder(os.path.join(room, name))
-
-
-def remove_left_folder(path: str) -> None:
-    """Removes a folder, unless it is new, or locked, or another user's."""
-    status = os.lstat(path)
-    if status.st_uid != os.getuid() or time.time() - status.st_mtime < SECONDS_TO_LOCK:
-        return
-    folder = lock_folder(path)
-    try:
-        shutil.rmtree(path, ignore_errors=True)
-    finally:
-        os.close(folder)
+    for path in [os.path.join(room, name) for name in os.listdir(room) if name.startswith(FOLDER_PREFIX)]:
+        with contextlib.suppress(OSError, FolderInUse), contextlib.ExitStack() as ending:
+            status = os.lstat(path)
+            if status.st_uid == os.getuid() and time.time() - status.st_mtime >= SECONDS_TO_LOCK:
+                ending.callback(os.close, lock_folder(path))
+                shutil.rmtree(path, ignore_errors=True)
 
 
 class TimedAnswers(io.FileIO):
     """The process's answers to the server. Once the server ends, the process is killed if it is silent for too long: then they end."""
 
-    def __init__(self, descriptor: int, kill: Callable[[], None]) -> None:
-        super().__init__(descriptor, closefd=False)
-        self._kill, self._poll = kill, select.poll()
-        self._poll.register(descriptor, select.POLLIN)
-        self.ends_since: Optional[float] = None
+    def __init__(self, process: "subprocess.Popen[bytes]") -> None:
+        assert process.stdout
+        super().__init__(process.stdout.fileno(), closefd=False)
+        self._process, self._poll = process, select.poll()
+        self._poll.register(self, select.POLLIN)
+        self.ends_since = math.inf
         """When the server began to end, if it does."""
         self.are_cut = False
 
@@ -118,9 +95,9 @@ class TimedAnswers(io.FileIO):
         """Reads what there is, once there is something."""
         start = time.monotonic()
         while not self._poll.poll(1000 * SECONDS_BETWEEN_POLLS):
-            if self.ends_since is not None and time.monotonic() >= max(start, self.ends_since) + SECONDS_OF_SILENCE:
+            if time.monotonic() >= max(start, self.ends_since) + SECONDS_OF_SILENCE:
                 self.are_cut = True
-                self._kill()
+                self._process.kill()
         return super().readinto(room)
 
 
@@ -152,18 +129,21 @@ class StoreProcess:
 
     def start(self, program: str, sessions: int, memory: int) -> None:
         """Starts the process, which may take up to `memory` bytes. Raises StoreError if it isn't a store."""
-        self._size = pipe_size(sessions)
+        # a power of two
+        self._size = 1 << (min(MAX_PIPE_BYTES, MAX_PIPES_BYTES // (2 * sessions)).bit_length() - 1)
         self._door = os.path.join(self._folder, "door")
         os.mkfifo(self._door, 0o600)
+        # also for reading, so that neither this nor a write waits for the store
+        self._knocking = os.open(self._door, os.O_RDWR)
         words = [program, "serve", "--at", self._door, "--sessions", str(sessions)]
         try:
             # In its own session, so that an interrupt at a terminal reaches only the server.
             self._process = subprocess.Popen(words, stdin=subprocess.PIPE, stdout=subprocess.PIPE, start_new_session=True)
         except OSError as error:
             raise StoreError(f"cannot start {program}: {error.strerror}") from None
-        assert self._process.stdin and self._process.stdout
-        self._commands, self._read = self._process.stdin, TimedAnswers(self._process.stdout.fileno(), self._process.kill)
-        self._answers = io.BufferedReader(self._read)
+        assert self._process.stdin
+        self._commands, self.timed = self._process.stdin, TimedAnswers(self._process)
+        self._answers = io.BufferedReader(self.timed)
         self._is_started = True
         try:
             self._commands.write(b"stat\n")
@@ -173,9 +153,10 @@ class StoreProcess:
             for pipe in self._commands, self._answers:
                 set_pipe_size(pipe, MAX_PIPE_BYTES)
         except (OSError, StoreError) as error:
-            status = self._end_of_failed()
-            ended = "" if status is None else f"{program} ended with {status_text(status)} before it answered"
-            raise StoreError(ended or f"{program} is not a store: {error}") from None
+            with contextlib.suppress(subprocess.TimeoutExpired):
+                raise StoreError(f"{program} ended with {status_text(self._process.wait(1))} before it answered") from None
+            self._process.kill()
+            raise StoreError(f"{program} is not a store: {error}") from None
 
     def _limit(self, memory: int) -> None:
         """Limits the memory that the process may take from now on. RLIMIT_AS would count what its threads have reserved and don't use, 64 MiB for each."""
@@ -184,14 +165,6 @@ class StoreProcess:
         hard = resource.prlimit(self._process.pid, resource.RLIMIT_DATA)[1]
         limit = has + memory if hard == resource.RLIM_INFINITY else min(has + memory, hard)
         resource.prlimit(self._process.pid, resource.RLIMIT_DATA, (limit, hard))
-
-    def _end_of_failed(self) -> Optional[int]:
-        """Ends a program that didn't start as a store. Returns its status if it had ended by itself."""
-        with contextlib.suppress(subprocess.TimeoutExpired):
-            return self._process.wait(1)
-        self._process.kill()
-        self._process.wait()
-        return None
 
     def _expect_totals(self, answers: int, who: str) -> None:
         """Reads the answer to `stat`. No other answer is pending."""
@@ -204,7 +177,7 @@ class StoreProcess:
             raise StoreError(f"{who} answered {answer[:60]!r} to stat" if answer else f"{who} closed its output")
 
     def open_session(self) -> Pipes:
-        """Opens a session. The names of its pipes remain until it has ended."""
+        """Opens a session, and waits until the store serves it. The names of its pipes remain until it has ended."""
         number = next(self._numbers)
         names = [f"{self._door}.{number}.{end}" for end in ("in", "out")]
         with contextlib.ExitStack() as failing, contextlib.ExitStack() as held:
@@ -213,35 +186,14 @@ class StoreProcess:
                 failing.callback(os.remove, name)
                 # Until the store has opened them both pipes have a reader and a writer here.
                 held.callback(os.close, os.open(name, os.O_RDWR))
-            requests = failing.enter_context(open(names[0], "wb", 0))
-            answers = failing.enter_context(open(names[1], "rb", 0))
-            pipes = Pipes(requests, answers, names)
-            self._enter(number, pipes)
+            pipes = Pipes(failing.enter_context(open(names[0], "wb", 0)), failing.enter_context(open(names[1], "rb", 0)), names)
+            for pipe in pipes.requests, pipes.answers:
+                set_pipe_size(pipe, self._size)
+            os.write(self._knocking, b"%d\n" % number)
+            pipes.requests.write(b"stat\n")
+            self._expect_totals(pipes.answers.fileno(), "a session")
             failing.pop_all()
         return pipes
-
-    def _enter(self, number: int, pipes: Pipes) -> None:
-        """Writes a session's number to the door, and waits until the store serves it."""
-        for pipe in pipes.requests, pipes.answers:
-            set_pipe_size(pipe, self._size)
-        self._knock(b"%d\n" % number)
-        pipes.requests.write(b"stat\n")
-        self._expect_totals(pipes.answers.fileno(), "a session")
-
-    def _knock(self, line: bytes) -> None:
-        end = time.monotonic() + SECONDS_TO_BEGIN
-        while True:
-            try:
-                door = os.open(self._door, os.O_WRONLY | os.O_NONBLOCK)
-                break
-            except OSError as error:
-                if error.errno != errno.ENXIO or time.monotonic() > end:
-                    raise StoreError(f"the store doesn't open its door: {error.strerror}") from None
-                time.sleep(SECONDS_BETWEEN_LOOKS)
-        try:
-            os.write(door, line)
-        finally:
-            os.close(door)
 
     def _ask(self, line: bytes) -> None:
         """Sends a command. Raises StoreError if the store has ended."""
@@ -311,14 +263,6 @@ class StoreProcess:
             return not self._is_closing and self._process.returncode is None and ended is None
         return False
 
-    def limit_silence(self, is_limited: bool) -> None:
-        """From now on, the process is killed if it doesn't answer; or not any more."""
-        self._read.ends_since = time.monotonic() if is_limited else None
-
-    def is_cut(self) -> bool:
-        """Whether it was killed for that."""
-        return self._read.are_cut
-
     def close(self) -> int:
         """Ends the process, if it was started, removes the folder, and returns the exit status. Everything in the store is lost."""
         self._is_closing = True
@@ -336,9 +280,8 @@ class StoreProcess:
             self._commands.close()
         if has_lock:
             self._lock.release()
-        with contextlib.suppress(subprocess.TimeoutExpired):
-            return self._process.wait(SECONDS_TO_END)
-        self._process.kill()
-        with contextlib.suppress(subprocess.TimeoutExpired):
-            return self._process.wait(SECONDS_TO_END)
+        for kill in (lambda: None), self._process.kill:
+            kill()
+            with contextlib.suppress(subprocess.TimeoutExpired):
+                return self._process.wait(SECONDS_TO_END)
         return -signal.SIGKILL
