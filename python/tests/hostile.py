@@ -107,7 +107,7 @@ def gets_that_are_ended():
     found, twice = [], "import os, runpy; unlink, kill = os.unlink, os.kill; os.unlink = lambda name: (kill(os.getpid(), %d), unlink(name)); "
     run = "runpy.run_module('b3store', run_name='__main__', alter_sys=True)"
     for number in signal.SIGTERM, signal.SIGHUP, signal.SIGINT:
-        for python in ["-m", "b3store"], *(["-c", twice % second + run] for second in (signal.SIGINT, signal.SIGTERM)):
+        for python in (["-m", "b3store"], *(["-c", twice % second + run] for second in (signal.SIGINT, signal.SIGTERM))):
             found += ended_get(python, number, listen_to_signals)
     return found + ended_get(["-m", "b3store"], signal.SIGTERM, work_in_the_background)
 

@@ -272,7 +272,7 @@ def ends_while_it_starts():
     programs += [["-c", f"from b3store.programs import {name}; {name}()"] for name in ("client", "server")]
     programs += [[os.path.join(TOP, "examples", name + ".py")] for name in ("backup", "cache_server", "cluster")]
     found = []
-    for module in "argparse", *(["typing"] if starts_without("typing") else []):
+    for module in ("argparse", *(["typing"] if starts_without("typing") else [])):
         with tempfile.TemporaryDirectory() as place:
             with open(os.path.join(place, module + ".py"), "w", encoding="ascii") as file:
                 file.write("import os, signal\nos.kill(os.getpid(), signal.SIGINT)\n")

@@ -88,7 +88,7 @@ def wrong_arguments(store):
     filed = store.file(tenant, b"abc")
     wrong = (filed.address + "\nforget 0 " + filed.address, "", ABC[:-1], ABC + "0", "g" * 64, ABC + "\n", "\u0660" * 64, " " + ABC[1:])
     calls = lambda tenant, address: store.file(tenant, b"abc", address), lambda tenant, address: store.fetch_to(tenant, address, 1, 0, 0)
-    for call in store.has, store.fetch, store.forget, *calls:
+    for call in (store.has, store.fetch, store.forget, *calls):
         found += differences(*((raised(call, tenant, address), ValueError) for address in wrong))
         found += differences(*((raised(call, tenant, address), TypeError) for address in (ABC.encode(), [], 5)))
     found += differences((raised(store.ranges, tenant, ABC, 0), ValueError), (raised(store.file, tenant, "abc"), TypeError))

@@ -482,7 +482,7 @@ def sockets_that_are_passed(program: str) -> List[str]:
             tcp.bind(("127.0.0.1", 0))
             tcp.listen(1)
             wanted = b"descriptor 3 is not a listening Unix-domain socket"
-            for other in silent, tcp, *_vsock(stack):
+            for other in (silent, tcp, *_vsock(stack)):
                 with _passing(["--program", program], other, folder) as server:
                     out, told = server.communicate(timeout=SECONDS)
                     found += differences((server.returncode, 1), (out, b""), (wanted in told and told.count(b"\n") == 1, True))

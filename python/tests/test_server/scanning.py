@@ -119,7 +119,7 @@ def folders_of_killed_servers(program: str) -> List[str]:
             os.mkdir(os.path.join(room, name))
             os.mkfifo(os.path.join(room, name, "door"))
         os.symlink(os.path.join(room, "other-left"), os.path.join(room, "b3store-server-link"))
-        for name in *names[:3], "b3store-server-link":
+        for name in (*names[:3], "b3store-server-link"):
             os.utime(os.path.join(room, name), (0, 0), follow_symlinks=False)
         locked = lock_folder(os.path.join(room, names[1]))
         server_store.remove_left_folders()
