@@ -2,11 +2,11 @@
 import re
 from typing import Set
 
-MAX_HEAD = 32
+MAX_HEAD = 64
 """The lines that report an upload or raw bytes are shorter than this."""
 
-FIRST_LINE = re.compile(rb"(upload|bytes) ([0-9]+)\n")
-LATER_LINE = re.compile(rb"\n(upload|bytes) ([0-9]+)\n")
+FIRST_LINE = re.compile(rb"(upload|bytes|redo [0-9]+) ([0-9]+)\n")
+LATER_LINE = re.compile(rb"\n(upload|bytes|redo [0-9]+) ([0-9]+)\n")
 UPLOAD = b"upload "
 NEWLINE = 10
 
@@ -14,7 +14,7 @@ NEWLINE = 10
 class Answers:
     """Finds the uploads that a session began, in its answers, which are read in pieces as they come.
 
-    An answer consists of lines. Only the answer to `fetchb` has raw bytes, N of them after its line `bytes N`. The line `upload U` answers a command that
+    An answer consists of lines. The answers to `fetchb` and `redo` have raw bytes, N of them after the line `bytes N` or `redo NEXT N`. The line `upload U` answers a command that
     began upload U, and no line of another answer starts with this word. So the commands need not be read."""
 
     def __init__(self) -> None:
@@ -38,7 +38,7 @@ class Answers:
             missing = end + 1 + int(piece[6:end]) - len(piece) if end > 0 else -1
             self.body = max(0, missing)
             return missing < 0
-        if not piece or piece[-1] != NEWLINE or b"bytes " in piece:
+        if not piece or piece[-1] != NEWLINE or b"bytes " in piece or b"redo " in piece:
             return True
         if UPLOAD in piece:
             self.begun.update([int(line[len(UPLOAD) :]) for line in piece.split(b"\n") if line.startswith(UPLOAD)])
