@@ -14,8 +14,8 @@ NEWLINE = 10
 class Answers:
     """Finds the uploads that a session began, in its answers, which are read in pieces as they come.
 
-    An answer consists of lines. The answers to `fetchb` and `redo` have raw bytes, N of them after the line `bytes N` or `redo NEXT N`. The line `upload U` answers a command that
-    began upload U, and no line of another answer starts with this word. So the commands need not be read."""
+    An answer consists of lines. The answers to `fetchb` and `redo` have raw bytes, N of them after the line `bytes N` or `redo NEXT N`. The line `upload U`
+    answers a command that began upload U, and no line of another answer starts with this word. So the commands need not be read."""
 
     def __init__(self) -> None:
         self.begun: Set[int] = set()
