@@ -46,8 +46,11 @@ MAX_OF_A_HUNDRED = 4
 """So much of tests/program may pass with any program: a few cases ask nothing of it. They compare the second reading with what else is in the
 repository, and one wants no output of no lines."""
 
-MAX_OF_PAGES = 35
-"""The same of tests/pages: many cases compare the pages with each other, and with the crates."""
+MAX_OF_PAGES = 45
+"""The same of tests/pages: many cases compare the pages with each other, and with the crates, or use the library in place of the program."""
+
+MAX_OF_SOAK = 20
+"""The same of tests/soak: the cache's store is in its own process."""
 
 OF_GROWTHS_THAT_END = 100
 """The same of tests/growths, if the stand-in ends where it is to refuse a command."""
@@ -64,8 +67,8 @@ MAX_OF_C = 2
 MAX_OF_STORE_C = 25
 """The same of tests/store_c, which compares the header's structs with the code's too."""
 
-MAX_OF_CLIENTS = 35
-"""The same of tests/clients: a quarter of its cases need no store, such as those of arguments and of servers that end."""
+MAX_OF_CLIENTS = 90
+"""The same of tests/clients: most of its cases use stores in their own process, by the library, or need none."""
 
 
 def row_of(words, answer, is_test, refusal=Answer(3, b"", b"")):
@@ -191,7 +194,7 @@ def try_program(trials, name):
     if shutil.which("b3sum"):
         trials.fails(f"b3sum over {name}", [B3SUM, program], most=MAX_OF_B3SUM)
     few = ["--cases", "8", "--commands", "400", "--uploads", "4", "--minutes", "0.01"]
-    trials.fails(f"soak over {name}", [os.path.join(TESTS, "soak"), program, *few])
+    trials.fails(f"soak over {name}", [os.path.join(TESTS, "soak"), program, *few], most=MAX_OF_SOAK)
 
 
 def script(folder, name, *words):
