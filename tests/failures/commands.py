@@ -17,7 +17,7 @@ CANNOT_READ = b"b3store: cannot read\n"
 SIGNED = b"b3store: a number is decimal digits, without a sign; see b3store sum --help\n"
 VERSION = b"b3store 1.0.0 (proved with a Rattle kit of logic dac8208d650f15bf)\n"
 SCRIPT = b"tenant 4096\nbegin 0 3\nput 0 0 x:616263\nseal 0\nfrob\nlist 0\nfetch 0 %s\njournal\n" % ABC.encode()
-SESSION = b"tenant 4096\nbegin 0 3\nputb 0 0 3\nabcseal 0\nfrob\nfetchb 0 %s\nuploads 0\nfile 0 3\nabcentries 2\n" % ABC.encode()
+SESSION = b"tenant 4096\nbegin 0 3\nputb 0 0 3\nabcseal 0\nfrob\nfetchb 0 %s\nuploads 0\nfile 0 3\nabcredo 0 9\nentries 2\n" % ABC.encode()
 JOURNAL = HEADER + b"\ntenant 0 4096\nbegin 0 0 3\nput 0 0 3\nseal 0 %s new\n" % ABC.encode()
 
 

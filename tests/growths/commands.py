@@ -55,6 +55,7 @@ has 0 {address_of(b"a" * 2049)}
 fetchb 0 {address_of(b"a" * 2049)} 1000 1040
 list 0
 objects 0 0 9
+redo 0 9
 tenants
 counts
 entries 3
