@@ -2,7 +2,6 @@
 
 - A seal keeps the bytes of its parts without copying them; a seal of known content and a forget, which free bytes, don't copy them either. Each
   of them allocates the same amount of memory if its parts are 64 times as long.
-- A fetch shares the object: eight fetches allocate less memory than one of its parts has. This is tested with a test program of store_tests.
 - An upload allocates at most 1.5 times as many bytes as its input has.
 - A fetch of an object that is 64 times as long allocates no more memory, and of a line that is too long for a command no more bytes are kept
   than of the longest command.
@@ -32,7 +31,6 @@ from resident import ENTRY_BYTES, resident
 from script import pattern
 
 SECONDS = 120
-CRATES = os.path.join(os.path.dirname(os.path.dirname(HERE)), "crates")
 PARTS = 16
 FEW_ROUNDS, MANY_ROUNDS = 200, 4000
 PART = 65536
@@ -155,18 +153,6 @@ def a_forget_copies_no_bytes(options, folder):
     return more_for_long_parts(options, folder, 2)
 
 
-def a_fetch_shares_bytes(options, folder):
-    """How much eight fetches ask for, and how much that may be."""
-    program = os.path.join(options.crates, "store_tests", "out", "store_tests_tests")
-    counts = []
-    for test in ("files_an_object", "files_and_fetches_an_object"):
-        found, count = counted([program, f"memory::{test}"], counting(folder))
-        if not found.endswith("test result: ok\n"):
-            raise ValueError(f"it answered {found[-200:]!r}")
-        counts.append(count)
-    return counts[1] - counts[0], PART
-
-
 def a_fetch_asks_for_no_digits(options, folder):
     library = counting(folder)
     counts = []
@@ -277,15 +263,13 @@ def main():
     end_where_older()
     parser = argparse.ArgumentParser(description=__doc__.split("\n\n")[0])
     parser.add_argument("program", metavar="PROGRAM", type=os.path.abspath)
-    parser.add_argument("--program-alone", action="store_true", help="leave the test program out")
-    parser.add_argument("--crates", default=CRATES, metavar="FOLDER", help="use the test programs FOLDER/NAME/out/NAME_tests")
     options, passed, failed = parser.parse_args(), 0, 0
     tests = [
         a_seal_shares_bytes, a_seal_of_what_is_known_copies_no_bytes, a_forget_copies_no_bytes, a_fetch_asks_for_no_digits,
         a_line_that_is_too_long_is_not_kept, an_upload_takes_its_input_once, threads_are_as_many_as_asked_for,
         what_is_held_is_measured, what_is_forgotten_is_given_back, what_is_known_is_given_back, what_is_aborted_is_given_back,
     ]
-    for test in tests if options.program_alone else [*tests, a_fetch_shares_bytes]:
+    for test in tests:
         name = test.__name__.replace("_", " ")
         try:
             with tempfile.TemporaryDirectory() as folder:

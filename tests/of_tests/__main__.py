@@ -159,7 +159,7 @@ def try_program(trials, name):
     trials.fails(f"failures over {name}", [failures, program])
     trials.fails(f"random over {name}", [random, program, "--cases", str(FEW_CASES)])
     trials.fails(f"sessions over {name}", [os.path.join(TESTS, "sessions"), program, "--program-alone", "--commands", "1000"])
-    trials.fails(f"memory over {name}", [memory, program, "--program-alone"], "it answered")
+    trials.fails(f"memory over {name}", [memory, program], "it answered")
     trials.fails(f"pages over {name}", [os.path.join(TESTS, "pages"), program], may_pass=True)
     if name == ANSWERS:
         trials.fails(f"program over {name}", [os.path.join(TESTS, "program"), program], may_pass=True)

@@ -1,11 +1,13 @@
 /* Makes every call of include/b3store.h, with closed handles and handles of other kinds, and again with each allocation refused in turn: then a
- * refused call has changed nothing, is made again, and no memory is lost. Writes the number of allocations that were refused. */
+ * refused call has changed nothing, is made again, and no memory is lost. A fetch allocates no room for the object's bytes, and uploads take as
+ * many compressions as one hash of their bytes. Writes the number of allocations that were refused. */
 #include "b3store.h"
 #include <stdio.h>
 #include <stdlib.h>
 #include <string.h>
 
 static long allocations, refused_one = -1, blocks;
+static size_t allocated;
 void *__real_malloc(size_t size);
 void *__real_realloc(void *block, size_t size);
 void __real_free(void *block);
@@ -16,6 +18,7 @@ void __wrap_free(void *block);
 void *__wrap_malloc(size_t size) {
     if (allocations++ == refused_one) return NULL;
     blocks++;
+    allocated += size;
     return __real_malloc(size);
 }
 
@@ -139,11 +142,14 @@ static void lists(void) {
 static void objects(b3store_object *object) {
     b3store_address other = sealed.address;
     uint64_t len = 0;
+    size_t before;
     other.bytes[0] ^= 1;
     WORKS(b3store_has(&store, 1, &sealed.address, &len, &why));
     SHOWS(len == LEN && b3store_has(&store, 1, &other, &len, &why) == B3STORE_NOT_HELD);
     SHOWS(b3store_fetch(&store, 1, &other, object, &why) == B3STORE_NOT_HELD && object->at == NULL);
+    before = allocated;
     WORKS(b3store_fetch(&store, 1, &sealed.address, object, &why));
+    SHOWS(allocated - before < LEN / 2);
     SHOWS(b3store_fetch(&store, 1, &sealed.address, object, &why) == B3STORE_IS_OPEN);
     WORKS(b3store_forget(&store, 0, &sealed.address, &why));
     SHOWS(b3store_forget(&store, 0, &sealed.address, &why) == B3STORE_NOT_HELD);
@@ -220,8 +226,55 @@ static void run(long nth) {
     SHOWS(blocks == 0);
 }
 
+/* What a part adds to the compressions when it is prepared, and when it is put. */
+struct step {
+    uint64_t offset, len, prepared, put;
+};
+
+/* The compressions of an upload whose parts are put in this order, and of its seal. */
+static void compressions(uint64_t of, bool is_open, const struct step *steps, int count, uint64_t seal) {
+    static uint8_t none[1 << 24];
+    b3store_part part = B3STORE_CLOSED;
+    b3store_progress held;
+    WORKS(b3store_open(&store, 1, 100, 1));
+    WORKS(b3store_open_tenant(&store, of, &tenant, &why));
+    if (is_open) WORKS(b3store_begin_open(&store, tenant, of, &upload, &why));
+    else WORKS(b3store_begin(&store, tenant, of, &upload, &why));
+    for (int i = 0; i < count; i++) {
+        work = 0;
+        WORKS(b3store_prepare(&part, of, is_open, steps[i].offset, none, steps[i].len, &work));
+        SHOWS(work == steps[i].prepared);
+        work = 0;
+        WORKS(b3store_put(&store, upload, &part, &held, &why, &work));
+        SHOWS(work == steps[i].put);
+    }
+    work = 0;
+    WORKS(b3store_seal(&store, upload, &sealed, &why, &work));
+    SHOWS(work == seal && b3store_close(&store) == 0);
+}
+
+/* In total as many as one hash of the bytes: 18 for 1025, 35 for 2049, 271 for 16 chunks. */
+static void all_compressions(void) {
+    static const struct step two[] = {{1024, 1, 0, 0}, {0, 1024, 15, 2}}, three[] = {{2048, 1, 0, 0}, {0, 1024, 15, 0}, {1024, 1024, 15, 2}};
+    static const struct step whole[] = {{0, 1025, 17, 0}}, longest[] = {{0, 1 << 24, 278526, 0}}, open[] = {{0, 1024, 15, 0}, {1024, 1, 0, 2}};
+    static const uint64_t merged[] = {2, 4, 2, 6, 2, 4, 2, 8};
+    struct step sixteen[16];
+    for (uint64_t i = 0; i < 8; i++) {
+        sixteen[i] = (struct step){2048 * i, 1024, 15, 0};
+        sixteen[8 + i] = (struct step){1024 * (15 - 2 * i), 1024, 15, merged[i]};
+    }
+    compressions(1025, false, two, 2, 1);
+    compressions(2049, false, three, 3, 3);
+    compressions(1025, false, whole, 1, 1);
+    compressions(0, false, NULL, 0, 1);
+    compressions(16384, false, sixteen, 16, 1);
+    compressions(1 << 24, false, longest, 1, 1);
+    compressions(4096, true, open, 2, 1);
+}
+
 int main(void) {
     long all, nth;
+    all_compressions();
     for (int i = 0; i < LEN; i++) bytes[i] = (uint8_t)(i * 31 + i / 256);
     run(-1);
     all = allocations;
