@@ -97,9 +97,9 @@ redone_by s (entry.Forget tenant address) = Some (redone.Forget tenant address)
 redone_by s _ = None
 
 -- the bytes of its object
-abbrev pub bytes_in : Option Redone → ℕ
-bytes_in (Some (redone.File tenant bytes)) = length bytes
-bytes_in _ = 0
+abbrev pub redone_len : Option Redone → ℕ
+redone_len (Some (redone.File tenant bytes)) = length bytes
+redone_len _ = 0
 
 -- whether these are too many more bytes for an answer
 abbrev pub is_over : ℕ → ℕ → Bool
@@ -112,18 +112,18 @@ taken_if false more = suc more
 
 unfoldable pub taken : ModelStore → ℕ → List Entry → ℕ
 taken s used [] = 0
-taken s used (e ∷ entries) = taken_if (is_over used (bytes_in (redone_by s e))) (taken s (used + bytes_in (redone_by s e)) entries)
+taken s used (e ∷ entries) = taken_if (is_over used (redone_len (redone_by s e))) (taken s (used + redone_len (redone_by s e)) entries)
 
 -- what redoes these entries in one answer
 abbrev pub redo_of : ModelStore → List Entry → List Redone
 redo_of s entries = filter_map (redone_by s) (take (taken s 0 entries) entries)
 
 -- the entries from this number on, at most `count` of them
-abbrev pub entries_from : ModelStore → ℕ → ℕ → List Entry
-entries_from s from count = take (min count max_redo_entries) (drop from s.journal)
+abbrev pub redo_slice : ModelStore → ℕ → ℕ → List Entry
+redo_slice s from count = take (min count max_redo_entries) (drop from s.journal)
 
 abbrev pub redo_in : ModelStore → ℕ → ℕ → ModelRedo
-redo_in s from count = record { next = from + taken s 0 (entries_from s from count); lines = redo_of s (entries_from s from count) }
+redo_in s from count = record { next = from + taken s 0 (redo_slice s from count); lines = redo_of s (redo_slice s from count) }
 
 -- ---- questions as values
 
