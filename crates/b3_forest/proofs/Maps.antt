@@ -1,8 +1,8 @@
 -- Look-ups in a map of pieces.
-use Rattle.std.proofs.Common.{◌≡◌, ℕ, ◌+◌, ◌<◌, ◌⊎◌, [], ◌∷◌, length, Some, None, true, false, Less, Equal, Greater, arith, refl, ap, sym, ◌∙◌, inl, inr}
+use Rattle.std.proofs.Common.{◌≡◌, ℕ, ◌+◌, ◌<◌, ◌⊎◌, List, [], ◌∷◌, length, Some, None, true, false, Less, Equal, Greater, arith, refl, ap, sym, ◌∙◌, inl, inr}
 use Rattle.std.specs.Prelude.{◌≢◌, cond}
 use Rattle.std.specs.BTreeMap.{insert_entry, is_at}
-use Rattle.std.specs.Map.{remove_entry}
+use Rattle.std.specs.Map.{lookup, remove_entry}
 use Rattle.std.specs.Ordering.{nat_cmp}
 use Rattle.std.proofs.lemmas.Bool.Decides.{nat_tests}
 use Rattle.std.proofs.lemmas.Bool.{cases_lt}
@@ -31,7 +31,7 @@ same_or a b = elim (three a b) [
 
 -- ---- an entry put in
 
-pub put_here : (es : Subtrees) (k : ℕ) (v : Subtree) → subtree_at (insert_entry nat_cmp es k v) k ≡ Some v
+pub put_here : {X : Type 0} (es : List (ℕ × X)) (k : ℕ) (v : X) → lookup (is_at (nat_cmp k)) (insert_entry nat_cmp es k v) ≡ Some v
 put_here [] k v = rw (at_same k) refl
 put_here (e ∷ es) k v = elim (three k e.0) [
   | inl less ↦ let c : nat_cmp k e.0 ≡ Less = grind (arith, nat_tests) in rw (c, at_same k) refl
@@ -45,7 +45,7 @@ put_here (e ∷ es) k v = elim (three k e.0) [
       rw (c, other) (put_here es k v)
 ]
 
-pub put_apart : (es : Subtrees) (k q : ℕ) (v : Subtree) → q ≢ k → subtree_at (insert_entry nat_cmp es k v) q ≡ subtree_at es q
+pub put_apart : {X : Type 0} (es : List (ℕ × X)) (k q : ℕ) (v : X) → q ≢ k → lookup (is_at (nat_cmp q)) (insert_entry nat_cmp es k v) ≡ lookup (is_at (nat_cmp q)) es
 put_apart [] k q v apart = rw (at_other q k apart) refl
 put_apart (e ∷ es) k q v apart = elim (three k e.0) [
   | inl less ↦ let c : nat_cmp k e.0 ≡ Less = grind (arith, nat_tests) in rw (c, at_other q k apart) refl

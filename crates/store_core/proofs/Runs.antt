@@ -11,8 +11,9 @@ use Rattle.store_core.specs.Carried.{IsCarried}
 use Rattle.store_core.specs.Commands.{Acceptance, StepsAs, address_in, address_refused, advanced, and_then, as_is, content_in, filed_in, part_refused, sealed_by, unless}
 use Rattle.store_core.specs.Model.{ModelObject, ModelStoreBooks, ModelStore}
 use Rattle.store_core.specs.inner.Model.{ModelStoreUpload}
-use Rattle.store_core.specs.Runs.{Call, FitsItsPlan, Run, RunsCarry, Step, ask, change, put, replied}
+use Rattle.store_core.specs.Runs.{Call, FitsItsPlan, Run, RunsCarry, Step, answer_in, ask, change, put, replied}
 use Rattle.store_core.specs.declared.store.questions.Reply.{Reply}
+use Rattle.store_core.specs.declared.command.Command.{Command}
 use Rattle.store_core.specs.declared.command.Command.TheVariants as commands
 use Rattle.store_core.proofs.Carried.{abort_carried, begun_carried, fix_carried, forget_carried, known_carried, limit_carried, new_carried, put_carried, tenant_carried}
 use Rattle.store_core.proofs.Contents.{long_found}
@@ -80,29 +81,23 @@ filed_carried old number h ready =
 
 -- ---- one step
 
+command_accepts : (old : ModelStore) (command : Command) → IsCarried old → Accepts old (answer_in old.state command)
+command_accepts old (commands.OpenTenant limit) h = accepts_replied old _ _ (accepts_unless old (tenant_refusal old.state limit) _ (λ free. tenant_carried old limit h free))
+command_accepts old (commands.SetLimit tenant limit) h = accepts_replied old _ _ (accepts_unless old (limit_refusal length old.state tenant limit) _ (λ free. limit_carried old tenant limit h free))
+command_accepts old (commands.Begin tenant len) h = accepts_replied old _ _ (accepts_unless old (begin_refusal length old.state tenant len) _ (λ free. begun_carried old tenant (closed_plan len) h free))
+command_accepts old (commands.BeginOpen tenant at_most) h = accepts_replied old _ _ (accepts_unless old (begin_refusal length old.state tenant at_most) _ (λ free. begun_carried old tenant (open_plan at_most) h free))
+command_accepts old (commands.Fix upload len) h = accepts_replied old _ _ (accepts_unless old (fix_refusal length old.state upload len) _ (λ free. fix_carried old upload len h free))
+command_accepts old (commands.Seal upload) h = accepts_replied old _ _ (accepts_then old (ready_refusal length old.state upload) (filed_in old.state upload) (λ ready. filed_carried old upload h ready))
+command_accepts old (commands.SealAs upload address) h =
+    accepts_replied old _ _ (accepts_then old (ready_refusal length old.state upload) _ (λ ready. accepts_then old (address_refused old.state upload address) (filed_in old.state upload) (λ same. filed_carried old upload h ready)))
+command_accepts old (commands.Abort upload) h = accepts_replied old _ _ (accepts_unless old (abort_refusal old.state upload) _ (λ free. abort_carried old upload h free))
+command_accepts old (commands.Forget tenant address) h = accepts_replied old _ _ (accepts_unless old (forget_refusal hash_of old.state tenant address) _ (λ free. forget_carried old tenant address h free))
+
 step_carries : (old new : ModelStore) (call : Call) (reply : Result Reply Refusal) → IsCarried old → Step old call reply new → IsCarried new
-step_carries old new (change (commands.OpenTenant limit)) reply h step =
-    kept_on as_is _ old new reply (accepts_replied old _ _ (accepts_unless old (tenant_refusal old.state limit) _ (λ free. tenant_carried old limit h free))) h step
-step_carries old new (change (commands.SetLimit tenant limit)) reply h step =
-    kept_on as_is _ old new reply (accepts_replied old _ _ (accepts_unless old (limit_refusal length old.state tenant limit) _ (λ free. limit_carried old tenant limit h free))) h step
-step_carries old new (change (commands.Begin tenant len)) reply h step =
-    kept_on as_is _ old new reply (accepts_replied old _ _ (accepts_unless old (begin_refusal length old.state tenant len) _ (λ free. begun_carried old tenant (closed_plan len) h free))) h step
-step_carries old new (change (commands.BeginOpen tenant at_most)) reply h step =
-    kept_on as_is _ old new reply (accepts_replied old _ _ (accepts_unless old (begin_refusal length old.state tenant at_most) _ (λ free. begun_carried old tenant (open_plan at_most) h free))) h step
-step_carries old new (change (commands.Fix upload len)) reply h step =
-    kept_on as_is _ old new reply (accepts_replied old _ _ (accepts_unless old (fix_refusal length old.state upload len) _ (λ free. fix_carried old upload len h free))) h step
+step_carries old new (change command) reply h step = kept_on as_is (answer_in old.state command) old new reply (command_accepts old command h) h step
 step_carries old new (put upload part) reply h step =
     kept_on as_is _ old new reply
     (accepts_replied old _ _ (accepts_unless old (part_refused old.state upload part) _ (λ free. let p = is_put old.state upload part step.0 free in put_carried old upload part.part.offset part.part.bytes h p.fits p.free))) h step.1
-step_carries old new (change (commands.Seal upload)) reply h step =
-    kept_on as_is _ old new reply (accepts_replied old _ _ (accepts_then old (ready_refusal length old.state upload) (filed_in old.state upload) (λ ready. filed_carried old upload h ready))) h step
-step_carries old new (change (commands.SealAs upload address)) reply h step =
-    kept_on as_is _ old new reply
-    (accepts_replied old _ _ (accepts_then old (ready_refusal length old.state upload) _ (λ ready. accepts_then old (address_refused old.state upload address) (filed_in old.state upload) (λ same. filed_carried old upload h ready)))) h step
-step_carries old new (change (commands.Abort upload)) reply h step =
-    kept_on as_is _ old new reply (accepts_replied old _ _ (accepts_unless old (abort_refusal old.state upload) _ (λ free. abort_carried old upload h free))) h step
-step_carries old new (change (commands.Forget tenant address)) reply h step =
-    kept_on as_is _ old new reply (accepts_replied old _ _ (accepts_unless old (forget_refusal hash_of old.state tenant address) _ (λ free. forget_carried old tenant address h free))) h step
 step_carries old new (ask question) reply h step = subst (λ x. IsCarried x) (sym step.1) h
 
 run_carries : (old new : ModelStore) (calls : List Call) (replies : List (Result Reply Refusal)) → IsCarried old → Run old calls replies new → IsCarried new

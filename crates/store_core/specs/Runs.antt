@@ -28,18 +28,22 @@ replied reply (Err refusal) = Err refusal
 abbrev pub FitsItsPlan : ModelPrepared → Type 0
 FitsItsPlan p = Fits p.plan p.part.offset (length p.part.bytes)
 
+-- the model's answer to a command: an acceptance with its reply, or a refusal
+abbrev pub answer_in : ModelStoreBooks → Command → Result (Acceptance Reply) Refusal
+answer_in s (commands.OpenTenant limit) = replied replies.Tenant (open_tenant_in s limit)
+answer_in s (commands.SetLimit tenant limit) = replied (λ _. replies.Done) (set_limit_in s tenant limit)
+answer_in s (commands.Begin tenant len) = replied (λ r. replies.Upload r.0 r.1) (begin_in s tenant len)
+answer_in s (commands.BeginOpen tenant at_most) = replied (λ r. replies.Upload r.0 r.1) (begin_open_in s tenant at_most)
+answer_in s (commands.Fix upload len) = replied (λ _. replies.Done) (fix_in s upload len)
+answer_in s (commands.Seal upload) = replied replies.Sealed (seal_in s upload)
+answer_in s (commands.SealAs upload address) = replied replies.Sealed (seal_as_in s upload address)
+answer_in s (commands.Abort upload) = replied (λ _. replies.Done) (abort_in s upload)
+answer_in s (commands.Forget tenant address) = replied (λ _. replies.Done) (forget_in s tenant address)
+
 -- One step: the reply and the effect are the model's. An accepted command adds its entry to the journal; a refused command and a question
 -- leave store and journal unchanged. A step that allocates may run out of memory.
 abbrev pub Step : ModelStore → Call → Result Reply Refusal → ModelStore → Type 0
-Step old (change (commands.OpenTenant limit)) reply new = StepsAs as_is (replied replies.Tenant (open_tenant_in old.state limit)) old reply new
-Step old (change (commands.SetLimit tenant limit)) reply new = StepsAs as_is (replied (λ _. replies.Done) (set_limit_in old.state tenant limit)) old reply new
-Step old (change (commands.Begin tenant len)) reply new = StepsAs as_is (replied (λ r. replies.Upload r.0 r.1) (begin_in old.state tenant len)) old reply new
-Step old (change (commands.BeginOpen tenant at_most)) reply new = StepsAs as_is (replied (λ r. replies.Upload r.0 r.1) (begin_open_in old.state tenant at_most)) old reply new
-Step old (change (commands.Fix upload len)) reply new = StepsAs as_is (replied (λ _. replies.Done) (fix_in old.state upload len)) old reply new
-Step old (change (commands.Seal upload)) reply new = StepsAs as_is (replied replies.Sealed (seal_in old.state upload)) old reply new
-Step old (change (commands.SealAs upload address)) reply new = StepsAs as_is (replied replies.Sealed (seal_as_in old.state upload address)) old reply new
-Step old (change (commands.Abort upload)) reply new = StepsAs as_is (replied (λ _. replies.Done) (abort_in old.state upload)) old reply new
-Step old (change (commands.Forget tenant address)) reply new = StepsAs as_is (replied (λ _. replies.Done) (forget_in old.state tenant address)) old reply new
+Step old (change command) reply new = StepsAs as_is (answer_in old.state command) old reply new
 Step old (put upload part) reply new = FitsItsPlan part × StepsAs as_is (replied replies.Held (put_in old.state upload part)) old reply new
 Step old (ask question) reply new = Answers old question reply × (new ≡ old)
 

@@ -8,9 +8,9 @@ use Rattle.store_books.specs.Books.{ModelOwnedUpload, max_entries, max_tenants, 
 use Rattle.store_books.specs.Commands.{abort_refusal, begin_refusal, file_refusal, fix_refusal, forget_refusal, limit_refusal, ready_refusal, tenant_refusal, with_end, with_known, with_left, with_new, with_part}
 use Rattle.store_books.specs.declared.refusal.Refusal.{Refusal}
 use Rattle.store_core.specs.Carried.{IsCarried}
-use Rattle.store_core.specs.Commands.{Acceptance, StepsAs, abort_in, address_in, address_refused, as_is, begin_in, begin_open_in, content_in, filed_in, fix_in, forget_in, open_tenant_in, part_refused, put_in, seal_as_in, seal_in, sealed_by, set_limit_in}
+use Rattle.store_core.specs.Commands.{Acceptance, StepsAs, address_in, address_refused, as_is, content_in, filed_in, part_refused, put_in, sealed_by}
 use Rattle.store_core.specs.Model.{ModelObject, ModelStore, ModelStoreBooks}
-use Rattle.store_core.specs.Runs.{Call, FitsItsPlan, Step, ask, change, put, replied}
+use Rattle.store_core.specs.Runs.{Call, FitsItsPlan, Step, answer_in, ask, change, put, replied}
 use Rattle.store_core.specs.declared.command.Command.TheVariants as commands
 use Rattle.store_core.specs.declared.store.questions.Reply.{Reply}
 use Rattle.store_core.specs.declared.store.questions.Reply.TheVariants as replies
@@ -60,20 +60,20 @@ limits_stay limits s c fits was = by c
     Keeps : ModelStore → Type 0
     Keeps t = limits_of t.state ≡ limits
 
-    sealed : (m : ℕ) → Keeps (advanced_by s (filed_in b m))
-    sealed m = if_accepted_keeps Keeps s was (file_refusal length hash_of b m (address_in b m)) _ (λ none. sealed_same b m (object_at hash_of b (address_in b m)) ∙ was)
+    sealed : (m : ℕ) → Keeps (advanced_by s (replied replies.Sealed (filed_in b m)))
+    sealed m = if_accepted_keeps _ Keeps s was (file_refusal length hash_of b m (address_in b m)) _ (λ none. sealed_same b m (object_at hash_of b (address_in b m)) ∙ was)
 
     by : (d : Call) → Keeps (after_call s d)
-    by (change (commands.OpenTenant limit)) = if_accepted_keeps Keeps s was (tenant_refusal b limit) _ (λ none. was)
-    by (change (commands.SetLimit t limit)) = if_accepted_keeps Keeps s was (limit_refusal length b t limit) _ (λ none. was)
-    by (change (commands.Begin t len)) = if_accepted_keeps Keeps s was (begin_refusal length b t len) _ (λ none. was)
-    by (change (commands.BeginOpen t at_most)) = if_accepted_keeps Keeps s was (begin_refusal length b t at_most) _ (λ none. was)
-    by (change (commands.Fix m n)) = if_accepted_keeps Keeps s was (fix_refusal length b m n) _ (λ none. end_same b m n (upload_at b m) ∙ was)
-    by (change (commands.Seal m)) = then_keeps Keeps s was (ready_refusal length b m) (filed_in b m) (sealed m)
-    by (change (commands.SealAs m a)) = then_keeps Keeps s was (ready_refusal length b m) _ (then_keeps Keeps s was (address_refused b m a) (filed_in b m) (sealed m))
-    by (change (commands.Abort m)) = if_accepted_keeps Keeps s was (abort_refusal b m) _ (λ none. was)
-    by (change (commands.Forget t a)) = if_accepted_keeps Keeps s was (forget_refusal hash_of b t a) _ (λ none. left_same b t a (object_at hash_of b a) ∙ was)
-    by (put m p) = if_accepted_keeps Keeps s was (part_refused b m p) _ (λ none. part_same b m p.part.offset p.part.bytes (upload_at b m) ∙ was)
+    by (change (commands.OpenTenant limit)) = if_accepted_keeps _ Keeps s was (tenant_refusal b limit) _ (λ none. was)
+    by (change (commands.SetLimit t limit)) = if_accepted_keeps _ Keeps s was (limit_refusal length b t limit) _ (λ none. was)
+    by (change (commands.Begin t len)) = if_accepted_keeps _ Keeps s was (begin_refusal length b t len) _ (λ none. was)
+    by (change (commands.BeginOpen t at_most)) = if_accepted_keeps _ Keeps s was (begin_refusal length b t at_most) _ (λ none. was)
+    by (change (commands.Fix m n)) = if_accepted_keeps _ Keeps s was (fix_refusal length b m n) _ (λ none. end_same b m n (upload_at b m) ∙ was)
+    by (change (commands.Seal m)) = then_keeps _ Keeps s was (ready_refusal length b m) (filed_in b m) (sealed m)
+    by (change (commands.SealAs m a)) = then_keeps _ Keeps s was (ready_refusal length b m) _ (then_keeps _ Keeps s was (address_refused b m a) (filed_in b m) (sealed m))
+    by (change (commands.Abort m)) = if_accepted_keeps _ Keeps s was (abort_refusal b m) _ (λ none. was)
+    by (change (commands.Forget t a)) = if_accepted_keeps _ Keeps s was (forget_refusal hash_of b t a) _ (λ none. left_same b t a (object_at hash_of b a) ∙ was)
+    by (put m p) = if_accepted_keeps _ Keeps s was (part_refused b m p) _ (λ none. part_same b m p.part.offset p.part.bytes (upload_at b m) ∙ was)
     by (ask question) = was
 
 -- ---- entries
@@ -88,25 +88,17 @@ record IsAccepted (Steps : Reply → Type 0) (old new : ModelStore) : Type 0 whe
 abbrev Outcome : (Reply → Type 0) → ModelStore → ModelStore → Type 0
 Outcome Steps old new = (length new.journal ≡ length old.journal) ⊎ IsAccepted Steps old new
 
-model_outcome : {M : Type 0} (f : M → Reply) (s : ModelStore) (m : Result (Acceptance M) Refusal) → Outcome (λ reply. StepsAs as_is (replied f m) s (Ok reply) (advanced_by s m)) s (advanced_by s m)
-model_outcome f s (Ok a) = inr (record { reply = f a.reply; step = (refl, refl); grows = length-append s.journal (a.entry ∷ []) })
-model_outcome f s (Err refusal) = inl refl
+model_outcome : (s : ModelStore) (m : Result (Acceptance Reply) Refusal) → Outcome (λ reply. StepsAs as_is m s (Ok reply) (advanced_by s m)) s (advanced_by s m)
+model_outcome s (Ok a) = inr (record { reply = a.reply; step = (refl, refl); grows = length-append s.journal (a.entry ∷ []) })
+model_outcome s (Err refusal) = inl refl
 
 fitting : (part : ModelPrepared) (Steps : Reply → Type 0) (old new : ModelStore) → FitsItsPlan part → Outcome Steps old new → Outcome (λ reply. FitsItsPlan part × Steps reply) old new
 fitting part Steps old new fits (inl same) = inl same
 fitting part Steps old new fits (inr is) = inr (record { reply = is.reply; step = (fits, is.step); grows = is.grows })
 
 call_outcome : (s : ModelStore) (c : Call) → IsFitting c → Outcome (λ reply. Step s c (Ok reply) (after_call s c)) s (after_call s c)
-call_outcome s (change (commands.OpenTenant limit)) fits = model_outcome replies.Tenant s (open_tenant_in s.state limit)
-call_outcome s (change (commands.SetLimit t limit)) fits = model_outcome (λ _. replies.Done) s (set_limit_in s.state t limit)
-call_outcome s (change (commands.Begin t len)) fits = model_outcome (λ r. replies.Upload r.0 r.1) s (begin_in s.state t len)
-call_outcome s (change (commands.BeginOpen t at_most)) fits = model_outcome (λ r. replies.Upload r.0 r.1) s (begin_open_in s.state t at_most)
-call_outcome s (change (commands.Fix m n)) fits = model_outcome (λ _. replies.Done) s (fix_in s.state m n)
-call_outcome s (change (commands.Seal m)) fits = model_outcome replies.Sealed s (seal_in s.state m)
-call_outcome s (change (commands.SealAs m a)) fits = model_outcome replies.Sealed s (seal_as_in s.state m a)
-call_outcome s (change (commands.Abort m)) fits = model_outcome (λ _. replies.Done) s (abort_in s.state m)
-call_outcome s (change (commands.Forget t a)) fits = model_outcome (λ _. replies.Done) s (forget_in s.state t a)
-call_outcome s (put m p) fits = fitting p _ s (after_call s (put m p)) fits (model_outcome replies.Held s (put_in s.state m p))
+call_outcome s (change command) fits = model_outcome s (answer_in s.state command)
+call_outcome s (put m p) fits = fitting p _ s (after_call s (put m p)) fits (model_outcome s (replied replies.Held (put_in s.state m p)))
 call_outcome s (ask question) fits = inl refl
 
 -- calls add at most one entry each

@@ -5,7 +5,8 @@ use Rattle.std.specs.List.{AllByRecursion}
 use Rattle.store_books.specs.declared.refusal.Refusal.{Refusal}
 use Rattle.store_core.specs.Commands.{Acceptance, advanced, and_then, unless}
 use Rattle.store_core.specs.Model.{ModelStore}
-use Rattle.store_core.specs.Runs.{Call}
+use Rattle.store_core.specs.Runs.{Call, replied}
+use Rattle.store_core.specs.declared.store.questions.Reply.{Reply}
 use Rattle.store_shared.specs.Made.{advanced_by, after_call, run_of}
 
 pub run_join : (old : ModelStore) (calls more : List Call) → run_of old (calls ++ more) ≡ run_of (run_of old calls) more
@@ -19,13 +20,13 @@ unfolding run_of
 along Keeps Apart keeps s [] apart was = was
 along Keeps Apart keeps s (c ∷ calls) apart was = along Keeps Apart keeps (after_call s c) calls apart.1 (keeps s c apart.0 was)
 
-module _ {M : Type 0} (Keeps : ModelStore → Type 0) (s : ModelStore) (was : Keeps s) where
+module _ {M : Type 0} (f : M → Reply) (Keeps : ModelStore → Type 0) (s : ModelStore) (was : Keeps s) where
   -- a refused command leaves the store, and an accepted one what it makes of it
-  pub if_accepted_keeps : (refusal : Option Refusal) (a : Acceptance M) → (refusal ≡ None → Keeps (advanced s a)) → Keeps (advanced_by s (unless refusal a))
+  pub if_accepted_keeps : (refusal : Option Refusal) (a : Acceptance M) → (refusal ≡ None → Keeps (advanced s a)) → Keeps (advanced_by s (replied f (unless refusal a)))
   if_accepted_keeps None a keeps = keeps refl
   if_accepted_keeps (Some refusal) a keeps = was
 
-  pub then_keeps : (refusal : Option Refusal) (rest : Result (Acceptance M) Refusal) → Keeps (advanced_by s rest) → Keeps (advanced_by s (and_then refusal rest))
+  pub then_keeps : (refusal : Option Refusal) (rest : Result (Acceptance M) Refusal) → Keeps (advanced_by s (replied f rest)) → Keeps (advanced_by s (replied f (and_then refusal rest)))
   then_keeps None rest keeps = keeps
   then_keeps (Some refusal) rest keeps = was
 

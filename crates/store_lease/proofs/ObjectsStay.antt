@@ -14,8 +14,9 @@ use Rattle.store_books.proofs.Lists.{all_removed, all_set}
 use Rattle.store_books.proofs.RisingHolders.{has, has_with, other_without}
 use Rattle.store_core.specs.Commands.{address_in, address_refused, content_in, filed_in, part_refused, sealed_by}
 use Rattle.store_core.specs.Model.{ModelObject, ModelStore, ModelStoreBooks}
-use Rattle.store_core.specs.Runs.{Call, ask, change, put}
+use Rattle.store_core.specs.Runs.{Call, ask, change, put, replied}
 use Rattle.store_core.specs.declared.command.Command.TheVariants as commands
+use Rattle.store_core.specs.declared.store.questions.Reply.TheVariants as replies
 use Rattle.store_upload.proofs.Places.{some_is}
 use Rattle.store_shared.specs.Made.{advanced_by, after_call}
 use Rattle.store_lease.specs.Laws.{forgets}
@@ -147,20 +148,20 @@ module _ (tenant : ℕ) (at bytes : List ℕ) where
       Keeps : ModelStore → Type 0
       Keeps t = Holds t.state tenant at bytes
 
-      sealed : (m : ℕ) → Keeps (advanced_by s (filed_in b m))
-      sealed m = if_accepted_keeps Keeps s was (file_refusal length hash_of b m (address_in b m)) (sealed_by b m (object_at hash_of b (address_in b m))) (λ none. sealed_holds b m (object_at hash_of b (address_in b m)) was)
+      sealed : (m : ℕ) → Keeps (advanced_by s (replied replies.Sealed (filed_in b m)))
+      sealed m = if_accepted_keeps _ Keeps s was (file_refusal length hash_of b m (address_in b m)) (sealed_by b m (object_at hash_of b (address_in b m))) (λ none. sealed_holds b m (object_at hash_of b (address_in b m)) was)
 
       by : (d : Call) → forgets tenant at d ≡ false → Keeps (after_call s d)
-      by (change (commands.OpenTenant limit)) apart = if_accepted_keeps Keeps s was (tenant_refusal b limit) _ (λ none. was)
-      by (change (commands.SetLimit t limit)) apart = if_accepted_keeps Keeps s was (limit_refusal length b t limit) _ (λ none. was)
-      by (change (commands.Begin t len)) apart = if_accepted_keeps Keeps s was (begin_refusal length b t len) _ (λ none. was)
-      by (change (commands.BeginOpen t at_most)) apart = if_accepted_keeps Keeps s was (begin_refusal length b t at_most) _ (λ none. was)
-      by (change (commands.Fix m n)) apart = if_accepted_keeps Keeps s was (fix_refusal length b m n) _ (λ none. stay b (with_end b m n (upload_at b m)) (fix_same b m n (upload_at b m)) was)
-      by (change (commands.Seal m)) apart = then_keeps Keeps s was (ready_refusal length b m) (filed_in b m) (sealed m)
-      by (change (commands.SealAs m a)) apart = then_keeps Keeps s was (ready_refusal length b m) _ (then_keeps Keeps s was (address_refused b m a) (filed_in b m) (sealed m))
-      by (change (commands.Abort m)) apart = if_accepted_keeps Keeps s was (abort_refusal b m) _ (λ none. was)
-      by (change (commands.Forget t a)) apart = if_accepted_keeps Keeps s was (forget_refusal hash_of b t a) _ (λ none. left_holds b t a (object_at hash_of b a) refl apart was)
-      by (put m p) apart = if_accepted_keeps Keeps s was (part_refused b m p) _ (λ none. stay b (with_part length b m p.part.offset p.part.bytes (upload_at b m)) (put_same b m p.part.offset p.part.bytes (upload_at b m)) was)
+      by (change (commands.OpenTenant limit)) apart = if_accepted_keeps _ Keeps s was (tenant_refusal b limit) _ (λ none. was)
+      by (change (commands.SetLimit t limit)) apart = if_accepted_keeps _ Keeps s was (limit_refusal length b t limit) _ (λ none. was)
+      by (change (commands.Begin t len)) apart = if_accepted_keeps _ Keeps s was (begin_refusal length b t len) _ (λ none. was)
+      by (change (commands.BeginOpen t at_most)) apart = if_accepted_keeps _ Keeps s was (begin_refusal length b t at_most) _ (λ none. was)
+      by (change (commands.Fix m n)) apart = if_accepted_keeps _ Keeps s was (fix_refusal length b m n) _ (λ none. stay b (with_end b m n (upload_at b m)) (fix_same b m n (upload_at b m)) was)
+      by (change (commands.Seal m)) apart = then_keeps _ Keeps s was (ready_refusal length b m) (filed_in b m) (sealed m)
+      by (change (commands.SealAs m a)) apart = then_keeps _ Keeps s was (ready_refusal length b m) _ (then_keeps _ Keeps s was (address_refused b m a) (filed_in b m) (sealed m))
+      by (change (commands.Abort m)) apart = if_accepted_keeps _ Keeps s was (abort_refusal b m) _ (λ none. was)
+      by (change (commands.Forget t a)) apart = if_accepted_keeps _ Keeps s was (forget_refusal hash_of b t a) _ (λ none. left_holds b t a (object_at hash_of b a) refl apart was)
+      by (put m p) apart = if_accepted_keeps _ Keeps s was (part_refused b m p) _ (λ none. stay b (with_part length b m p.part.offset p.part.bytes (upload_at b m)) (put_same b m p.part.offset p.part.bytes (upload_at b m)) was)
       by (ask question) apart = was
 
 -- ---- a seal

@@ -1,15 +1,14 @@
 -- An upload is open, with what it holds, until a call seals or aborts it.
-use Rattle.std.proofs.Common.{◌≡◌, ◌∙◌, ◌<◌, ℕ, Bool, true, false, true≢false, Less, Equal, Greater, List, [], ◌∷◌, Option, Some, None, arith, cond, inl, inr, refl, ap, sym, subst, length}
+use Rattle.std.proofs.Common.{◌≡◌, ◌∙◌, ◌<◌, ℕ, Bool, true, false, true≢false, List, [], ◌∷◌, Option, Some, None, arith, cond, refl, ap, sym, subst, length}
 use Rattle.std.specs.Prelude.{◌==◌, ◌≢◌, if◌then◌else◌, option_map}
-use Rattle.std.specs.BTreeMap.{insert_entry, is_at}
+use Rattle.std.specs.BTreeMap.{insert_entry}
 use Rattle.std.specs.Map.{lookup, remove_entry, set_value}
 use Rattle.std.specs.List.{AllByRecursion}
 use Rattle.std.specs.Option.{option_map_or, option_or}
 use Rattle.std.specs.Ordering.{nat_cmp}
 use Rattle.std.proofs.lemmas.Bool.{eq-eqb, eqb-true}
-use Rattle.std.proofs.lemmas.Bool.Decides.{nat_tests}
 use Rattle.b3_forest.specs.Parts.{ModelPrepared}
-use Rattle.b3_forest.proofs.Maps.{at_other, at_same, three}
+use Rattle.b3_forest.proofs.Maps.{at_other, at_same, put_apart, put_here}
 use Rattle.store_books.specs.Books.{IsOwnedUpload, ModelOwnedUpload, is_number, object_at, upload_at}
 use Rattle.store_books.specs.Commands.{add_refused, full_refusal, with_begun, with_end, with_known, with_left, with_new, with_part, with_upload, without_upload, abort_refusal, begin_refusal, file_refusal, fix_refusal, forget_refusal, limit_refusal, ready_refusal, tenant_refusal}
 use Rattle.store_books.specs.declared.refusal.Refusal.{Refusal}
@@ -17,8 +16,9 @@ use Rattle.store_books.specs.declared.refusal.Refusal.TheVariants.{NoUpload, Wro
 use Rattle.store_books.proofs.Numbers.{at_is}
 use Rattle.store_core.specs.Commands.{address_in, address_refused, content_in, filed_in, part_refused, sealed_by}
 use Rattle.store_core.specs.Model.{ModelObject, ModelStore, ModelStoreBooks}
-use Rattle.store_core.specs.Runs.{Call, FitsItsPlan, ask, change, put}
+use Rattle.store_core.specs.Runs.{Call, FitsItsPlan, ask, change, put, replied}
 use Rattle.store_core.specs.declared.command.Command.TheVariants as commands
+use Rattle.store_core.specs.declared.store.questions.Reply.TheVariants as replies
 use Rattle.store_upload.specs.Uploads.{UploadPlan, closed_plan, fixed_at, new_upload, open_plan, overlap_at, overlaps, place_fault, same_plan, with_more}
 use Rattle.store_upload.specs.declared.refusal.AddFault.{AddFault}
 use Rattle.store_upload.specs.declared.refusal.AddFault.TheVariants.{Overlap}
@@ -28,36 +28,6 @@ use Rattle.store_shared.specs.Made.{IsFitting, advanced_by, after_call}
 use Rattle.store_lease.specs.Laws.{HoldsPart, IsOpen, ends}
 use Rattle.store_lease.proofs.Along.{if_accepted_keeps, then_keeps}
 use Rattle.store_lease.proofs.Lookups.{lookup_front, lookup_last, removed_apart, set_apart, set_here}
-
--- ---- lists by number
-
-module _ {X : Type 0} where
-  pub insert_here : (es : List (ℕ × X)) (k : ℕ) (v : X) → lookup (is_number k) (insert_entry nat_cmp es k v) ≡ Some v
-  insert_here [] k v = rw (at_same k) refl
-  insert_here (e ∷ es) k v = elim (three k e.0) [
-    | inl less ↦ let c : nat_cmp k e.0 ≡ Less = grind (arith, nat_tests) in rw (c, at_same k) refl
-    | inr (inl same) ↦
-        let c : nat_cmp k e.0 ≡ Equal = grind (arith, nat_tests) in
-        let at : is_at (nat_cmp k) e.0 ≡ true = grind (arith, nat_tests) in
-        rw (c, at) refl
-    | inr (inr more) ↦
-        let c : nat_cmp k e.0 ≡ Greater = grind (arith, nat_tests) in
-        let other = at_other k e.0 (λ h. omega (arith, more, h)) in
-        rw (c, other) (insert_here es k v)
-  ]
-
-  insert_apart : (es : List (ℕ × X)) (k q : ℕ) (v : X) → q ≢ k → lookup (is_number q) (insert_entry nat_cmp es k v) ≡ lookup (is_number q) es
-  insert_apart [] k q v apart = rw (at_other q k apart) refl
-  insert_apart (e ∷ es) k q v apart = elim (three k e.0) [
-    | inl less ↦ let c : nat_cmp k e.0 ≡ Less = grind (arith, nat_tests) in rw (c, at_other q k apart) refl
-    | inr (inl same) ↦
-        let c : nat_cmp k e.0 ≡ Equal = grind (arith, nat_tests) in
-        let other = at_other q e.0 (λ h. apart (h ∙ sym same)) in
-        rw (c, other) refl
-    | inr (inr more) ↦
-        let c : nat_cmp k e.0 ≡ Greater = grind (arith, nat_tests) in
-        rw c (ap (cond (is_at (nat_cmp q) e.0) (Some e.1)) (insert_apart es k q v apart))
-  ]
 
 -- one number is not another one
 apart_numbers : (n m : ℕ) → (m == n) ≡ false → (k : ℕ) → is_number m k ≡ true → is_number n k ≡ false
@@ -181,7 +151,7 @@ module _ (upload : ℕ) (u : ModelOwnedUpload (List ℕ)) (full : HasBytes u) wh
     where
       stays : (offset : ℕ) (bytes : List ℕ) → lookup (is_number offset) u.upload.parts ≡ Some bytes → lookup (is_number offset) w.upload.parts ≡ Some bytes → lookup (is_number offset) (insert_entry nat_cmp w.upload.parts p.part.offset p.part.bytes) ≡ Some bytes
       stays offset bytes mine has =
-          insert_apart w.upload.parts p.part.offset offset p.part.bytes (elsewhere p.part.offset (length p.part.bytes) offset bytes w.upload.parts fits.some (full offset bytes mine) (clear_in b m p w known free) has) ∙ has
+          put_apart w.upload.parts p.part.offset offset p.part.bytes (elsewhere p.part.offset (length p.part.bytes) offset bytes w.upload.parts fits.some (full offset bytes mine) (clear_in b m p w known free) has) ∙ has
 
   -- a call that doesn't end the upload leaves it
   pub call_keeps : (s : ModelStore) (c : Call) → (ends upload c ≡ false) × IsFitting c → IsOpen s.state upload u → IsOpen (after_call s c).state upload u
@@ -196,20 +166,20 @@ module _ (upload : ℕ) (u : ModelOwnedUpload (List ℕ)) (full : HasBytes u) wh
       stay : (d : ModelStoreBooks) → d.uploads ≡ b.uploads → IsOpen d upload u
       stay d same = still upload u b d (λ w found. ap (lookup (is_number upload)) same ∙ found) was
 
-      sealed : (m : ℕ) → (m == upload) ≡ false → Keeps (advanced_by s (filed_in b m))
-      sealed m apart = if_accepted_keeps Keeps s was (file_refusal length hash_of b m (address_in b m)) (sealed_by b m (object_at hash_of b (address_in b m))) (λ none. sealed_keeps upload u b m (object_at hash_of b (address_in b m)) apart was)
+      sealed : (m : ℕ) → (m == upload) ≡ false → Keeps (advanced_by s (replied replies.Sealed (filed_in b m)))
+      sealed m apart = if_accepted_keeps _ Keeps s was (file_refusal length hash_of b m (address_in b m)) (sealed_by b m (object_at hash_of b (address_in b m))) (λ none. sealed_keeps upload u b m (object_at hash_of b (address_in b m)) apart was)
 
       by : (d : Call) → (ends upload d ≡ false) × IsFitting d → Keeps (after_call s d)
-      by (change (commands.OpenTenant limit)) apart = if_accepted_keeps Keeps s was (tenant_refusal b limit) _ (λ none. stay _ refl)
-      by (change (commands.SetLimit t limit)) apart = if_accepted_keeps Keeps s was (limit_refusal length b t limit) _ (λ none. stay _ refl)
-      by (change (commands.Begin t len)) apart = if_accepted_keeps Keeps s was (begin_refusal length b t len) _ (λ none. begun_more upload u b t (closed_plan len) was)
-      by (change (commands.BeginOpen t at_most)) apart = if_accepted_keeps Keeps s was (begin_refusal length b t at_most) _ (λ none. begun_more upload u b t (open_plan at_most) was)
-      by (change (commands.Fix m n)) apart = if_accepted_keeps Keeps s was (fix_refusal length b m n) _ (λ none. fix_keeps upload u b m n (upload_at b m) refl was)
-      by (change (commands.Seal m)) apart = then_keeps Keeps s was (ready_refusal length b m) (filed_in b m) (sealed m apart.0)
-      by (change (commands.SealAs m at)) apart = then_keeps Keeps s was (ready_refusal length b m) _ (then_keeps Keeps s was (address_refused b m at) (filed_in b m) (sealed m apart.0))
-      by (change (commands.Abort m)) apart = if_accepted_keeps Keeps s was (abort_refusal b m) _ (λ none. ended upload u b (without_upload b m) m apart.0 refl was)
-      by (change (commands.Forget t at)) apart = if_accepted_keeps Keeps s was (forget_refusal hash_of b t at) _ (λ none. left_keeps upload u b t at (object_at hash_of b at) was)
-      by (put m p) apart = if_accepted_keeps Keeps s was (part_refused b m p) _ (λ none. put_keeps b m p apart.1 none (upload_at b m) refl was)
+      by (change (commands.OpenTenant limit)) apart = if_accepted_keeps _ Keeps s was (tenant_refusal b limit) _ (λ none. stay _ refl)
+      by (change (commands.SetLimit t limit)) apart = if_accepted_keeps _ Keeps s was (limit_refusal length b t limit) _ (λ none. stay _ refl)
+      by (change (commands.Begin t len)) apart = if_accepted_keeps _ Keeps s was (begin_refusal length b t len) _ (λ none. begun_more upload u b t (closed_plan len) was)
+      by (change (commands.BeginOpen t at_most)) apart = if_accepted_keeps _ Keeps s was (begin_refusal length b t at_most) _ (λ none. begun_more upload u b t (open_plan at_most) was)
+      by (change (commands.Fix m n)) apart = if_accepted_keeps _ Keeps s was (fix_refusal length b m n) _ (λ none. fix_keeps upload u b m n (upload_at b m) refl was)
+      by (change (commands.Seal m)) apart = then_keeps _ Keeps s was (ready_refusal length b m) (filed_in b m) (sealed m apart.0)
+      by (change (commands.SealAs m at)) apart = then_keeps _ Keeps s was (ready_refusal length b m) _ (then_keeps _ Keeps s was (address_refused b m at) (filed_in b m) (sealed m apart.0))
+      by (change (commands.Abort m)) apart = if_accepted_keeps _ Keeps s was (abort_refusal b m) _ (λ none. ended upload u b (without_upload b m) m apart.0 refl was)
+      by (change (commands.Forget t at)) apart = if_accepted_keeps _ Keeps s was (forget_refusal hash_of b t at) _ (λ none. left_keeps upload u b t at (object_at hash_of b at) was)
+      by (put m p) apart = if_accepted_keeps _ Keeps s was (part_refused b m p) _ (λ none. put_keeps b m p apart.1 none (upload_at b m) refl was)
       by (ask question) apart = was
 
 -- ---- a begin
@@ -230,4 +200,4 @@ pub put_there : (b : ModelStoreBooks) (upload : ℕ) (p : ModelPrepared) (o : Op
 put_there b upload p None known free = absurd (cc (known, free))
 put_there b upload p (Some w) known free =
     let new = record w { upload = with_more length w.upload p.part.offset p.part.bytes } in
-    record { begun = new; found = set_here (is_number upload) b.uploads w new known; part = insert_here w.upload.parts p.part.offset p.part.bytes }
+    record { begun = new; found = set_here (is_number upload) b.uploads w new known; part = put_here w.upload.parts p.part.offset p.part.bytes }

@@ -3,11 +3,10 @@ use Rattle.std.specs.Prelude.{◌≡◌, ℕ, List, [], ◌∷◌, ◌++◌, Res
 use Rattle.std.specs.List.{AllByRecursion}
 use Rattle.store_books.specs.Books.{empty_books, max_entries, max_tenants, max_workers}
 use Rattle.store_books.specs.declared.refusal.Refusal.{Refusal}
-use Rattle.store_core.specs.declared.command.Command.TheVariants as commands
 use Rattle.store_core.specs.declared.store.questions.Reply.TheVariants as replies
-use Rattle.store_core.specs.Commands.{Acceptance, abort_in, advanced, begin_in, begin_open_in, fix_in, forget_in, open_tenant_in, put_in, seal_as_in, seal_in, set_limit_in}
+use Rattle.store_core.specs.Commands.{Acceptance, advanced, put_in}
 use Rattle.store_core.specs.Model.{ModelStore}
-use Rattle.store_core.specs.Runs.{Call, FitsItsPlan, ask, change, put}
+use Rattle.store_core.specs.Runs.{Call, FitsItsPlan, answer_in, ask, change, put, replied}
 
 -- the store after an acceptance, and the same store after a refusal
 abbrev pub advanced_by : {M : Type 0} → ModelStore → Result (Acceptance M) Refusal → ModelStore
@@ -16,16 +15,8 @@ advanced_by old (Err refusal) = old
 
 -- the store after a call
 abbrev pub after_call : ModelStore → Call → ModelStore
-after_call old (change (commands.OpenTenant limit)) = advanced_by old (open_tenant_in old.state limit)
-after_call old (change (commands.SetLimit tenant limit)) = advanced_by old (set_limit_in old.state tenant limit)
-after_call old (change (commands.Begin tenant len)) = advanced_by old (begin_in old.state tenant len)
-after_call old (change (commands.BeginOpen tenant at_most)) = advanced_by old (begin_open_in old.state tenant at_most)
-after_call old (change (commands.Fix upload len)) = advanced_by old (fix_in old.state upload len)
-after_call old (change (commands.Seal upload)) = advanced_by old (seal_in old.state upload)
-after_call old (change (commands.SealAs upload address)) = advanced_by old (seal_as_in old.state upload address)
-after_call old (change (commands.Abort upload)) = advanced_by old (abort_in old.state upload)
-after_call old (change (commands.Forget tenant address)) = advanced_by old (forget_in old.state tenant address)
-after_call old (put upload part) = advanced_by old (put_in old.state upload part)
+after_call old (change command) = advanced_by old (answer_in old.state command)
+after_call old (put upload part) = advanced_by old (replied replies.Held (put_in old.state upload part))
 after_call old (ask question) = old
 
 -- the store after these calls, the first of them first
