@@ -24,6 +24,7 @@ use Rattle.store_lines.specs.declared.request.Filing.{Filing}
 use Rattle.store_lines.specs.declared.request.Request.{Request}
 use Rattle.store_lines.specs.declared.request.Request.TheVariants.{Asks, Does, Entries, Fetch, File, Put, PutRaw}
 use Rattle.store_lines.specs.Access.{SessionState, alone_reach, alone_stands}
+use Rattle.store_lines.specs.Owning.{alone}
 use Rattle.store_lines.specs.Turns.{EndsOver, ServedAllOver, ServedCutOver, ServedOver, ServedSomeOver}
 use Rattle.store_lines.proofs.Turns.{of_turns}
 
@@ -139,21 +140,21 @@ of_ends verdicts.Refused rest (inr h) = absurd (let impossible = h.0 in cc)
 abbrev first : SessionState
 first = record { store = widest_start; parts = 0; bytes = 0; calls = 0; own = [] }
 
-answered_alone : (store : ModelStore) (left : SessionState → Type 0) (input output rest : List ℕ) → store ≡ widest_start → ServedOver alone_reach (alone_stands store) left input output rest → AreServed input output rest
+answered_alone : (store : ModelStore) (left : List SessionTurn → SessionState → Type 0) (input output rest : List ℕ) → store ≡ widest_start → ServedOver alone (alone_stands store) left input output rest → AreServed input output rest
 answered_alone store left input output rest is h =
     let p = h.plays first (sym is) in
     are_served p.0.store input output rest h.turns (of_turns first p.0 input rest h.turns p.1.0) h.text_is
 
-pub all_served : {E : Type 0} (r : Result Verdict E) (old w1 w2 : Option (List ℕ)) (store : ModelStore) (left : SessionState → Type 0) → store ≡ widest_start → IfOk r (λ verdict. IfSome old (λ input. ServedAllOver alone_reach (alone_stands store) left input w1 w2 verdict))
+pub all_served : {E : Type 0} (r : Result Verdict E) (old w1 w2 : Option (List ℕ)) (store : ModelStore) (left : List SessionTurn → SessionState → Type 0) → store ≡ widest_start → IfOk r (λ verdict. IfSome old (λ input. ServedAllOver alone (alone_stands store) left input w1 w2 verdict))
     → IfOk r (λ verdict. IfSome old (λ input. ServedAll input w1 w2 verdict))
 all_served (Err e) old w1 w2 store left is h = tt
 all_served (Ok verdict) None w1 w2 store left is h = tt
 all_served (Ok verdict) (Some input) w1 w2 store left is h = record { output = h.output; rest = h.rest; answered = answered_alone store left input h.output h.rest is h.answered; ends = of_ends verdict h.rest h.ends; wrote = h.wrote }
 
-pub some_served : (old w1 w2 : Option (List ℕ)) (store : ModelStore) (left : SessionState → Type 0) → store ≡ widest_start → IfSome old (λ input. ServedSomeOver alone_reach (alone_stands store) left input w1 w2) → IfSome old (λ input. ServedSome input w1 w2)
+pub some_served : (old w1 w2 : Option (List ℕ)) (store : ModelStore) (left : List SessionTurn → SessionState → Type 0) → store ≡ widest_start → IfSome old (λ input. ServedSomeOver alone (alone_stands store) left input w1 w2) → IfSome old (λ input. ServedSome input w1 w2)
 some_served None w1 w2 store left is h = tt
 some_served (Some input) w1 w2 store left is h = record { output = h.output; rest = h.rest; answered = answered_alone store left input h.output h.rest is h.answered; wrote = h.wrote }
 
-pub cut_served : (old w1 w2 : Option (List ℕ)) (store : ModelStore) (left : SessionState → Type 0) → store ≡ widest_start → IfSome old (λ input. ServedCutOver alone_reach (alone_stands store) left input w1 w2) → IfSome old (λ input. ServedCut input w1 w2)
+pub cut_served : (old w1 w2 : Option (List ℕ)) (store : ModelStore) (left : List SessionTurn → SessionState → Type 0) → store ≡ widest_start → IfSome old (λ input. ServedCutOver alone (alone_stands store) left input w1 w2) → IfSome old (λ input. ServedCut input w1 w2)
 cut_served None w1 w2 store left is h = tt
 cut_served (Some input) w1 w2 store left is h = record { output = h.output; rest = h.rest; answered = answered_alone store left input h.output h.rest is h.answered; wrote = h.wrote }

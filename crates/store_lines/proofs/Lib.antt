@@ -15,6 +15,7 @@ mod Puts
 mod FileParts
 mod Files
 mod Reports
+mod Owned
 mod Serves
 mod Under
 mod Alone

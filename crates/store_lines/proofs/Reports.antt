@@ -1,5 +1,5 @@
 -- What one line results in.
-use Rattle.std.proofs.Common.{◌≡◌, ◌<◌, ℕ, Bool, true, false, List, [], ◌∷◌, Ok, Err, Some, Option, Result, arith, inr, length, refl, subst, sym}
+use Rattle.std.proofs.Common.{◌≡◌, ◌<◌, ℕ, Bool, true, false, List, [], ◌∷◌, Ok, Err, Some, Option, Result, arith, inl, inr, length, refl, subst, sym}
 use Rattle.std.specs.Io.KnownBytes.{Appends}
 use Rattle.store_books.specs.Refusals.{refusal_text}
 use Rattle.store_books.specs.declared.refusal.Refusal.{Refusal}
@@ -22,9 +22,11 @@ use Rattle.store_lines.specs.declared.request.EntryRange.{EntryRange}
 use Rattle.store_lines.specs.declared.request.Range.{Range}
 use Rattle.store_lines.specs.declared.request.Request.{Request}
 use Rattle.store_lines.specs.declared.request.Request.TheVariants.{Asks, Does, Entries, Fetch, File, Put, PutRaw}
+use Rattle.store_core.specs.declared.command.Command.{Command}
+use Rattle.store_lines.specs.Owning.{Session}
 use Rattle.store_lines.specs.Access.{advance, at, SessionState, Reach, ReportedEntries, ReportedThese, Took}
 use Rattle.store_lines.specs.inner.Reporting.{AnsweredOver, ReportedOver}
-use Rattle.store_lines.specs.Turns.{IsLinkedBytes, IsLinkedCall, IsLinkedCommand, IsLinkedEntries, IsLinkedLine, IsLinkedPut, IsLinkedRequest, IsLinkedScriptLine}
+use Rattle.store_lines.specs.Turns.{IsLinkedBytes, IsLinkedCall, IsLinkedChange, IsLinkedCommand, IsLinkedEntries, IsLinkedLine, IsLinkedPut, IsLinkedRequest, IsLinkedScriptLine}
 
 -- ---- steps
 
@@ -94,31 +96,36 @@ pub plays : (reach : Reach) (old new : SessionState) (line : List ℕ) (turn : T
 plays reach old new [] turn command some is h = absurd (omega (arith, some))
 plays reach old new (b ∷ line) turn command some is h = subst (λ o. IsLinkedCommand reach old o turn new) is h
 
-call_turn : (reach : Reach) (old new : SessionState) (line : List ℕ) (request : Request) (call : Call) (turn : SessionTurn) → 0 < length line → Some request ≡ command_at line → ((t : Turn) → IsLinkedCall reach as_script old call (reported_as as_script t) new → IsLinkedCommand reach old (Some request) t new)
-    → IsLinkedCall reach as_script old call turn new → IsLinkedScriptLine reach old line turn new
-call_turn reach old new line request call no_memory some is f h = absurd h
-call_turn reach old new line request call (filed turns) some is f h = absurd h
-call_turn reach old new line request call (reported_as manner turn) some is f h = (h.0, plays reach old new line turn (Some request) some is (f turn (refl, h.1)))
+call_turn : (session : Session) (old new : SessionState) (line : List ℕ) (request : Request) (call : Call) (turn : SessionTurn) → 0 < length line → Some request ≡ command_at line → ((t : Turn) → IsLinkedCall session.reach as_script old call (reported_as as_script t) new → IsLinkedCommand session.reach old (Some request) t new)
+    → IsLinkedCall session.reach as_script old call turn new → IsLinkedScriptLine session old line turn new
+call_turn session old new line request call no_memory some is f h = absurd h
+call_turn session old new line request call (filed turns) some is f h = absurd h
+call_turn session old new line request call (reported_as manner turn) some is f h = (h.0, plays session.reach old new line turn (Some request) some is (f turn (refl, h.1)))
 
-entries_turn : (reach : Reach) (old new : SessionState) (line : List ℕ) (range : EntryRange) (turn : SessionTurn) → 0 < length line → Some (Entries range) ≡ command_at line → IsLinkedEntries reach range old turn new → IsLinkedScriptLine reach old line turn new
-entries_turn reach old new line range no_memory some is h =
+change_turn : (session : Session) (old new : SessionState) (line : List ℕ) (command : Command) (turn : SessionTurn) → 0 < length line → Some (Does command) ≡ command_at line → IsLinkedChange session old command turn new → IsLinkedScriptLine session old line turn new
+change_turn session old new line command no_memory some is h = (inr (inr (inr (h.0, (command, sym is, h.1)))), h.2)
+change_turn session old new line command (filed turns) some is h = absurd h
+change_turn session old new line command (reported_as manner turn) some is h = (h.0, plays session.reach old new line turn (Some (Does command)) some is h.1)
+
+entries_turn : (session : Session) (old new : SessionState) (line : List ℕ) (range : EntryRange) (turn : SessionTurn) → 0 < length line → Some (Entries range) ≡ command_at line → IsLinkedEntries session.reach range old turn new → IsLinkedScriptLine session old line turn new
+entries_turn session old new line range no_memory some is h =
     let spelled : IsSpelled line (Entries range) = found line (Entries range) (sym is) in
-    (inr (inr (h.0, subst (λ (r : EntryRange). command_at line ≡ Some (Entries r)) spelled.1 (sym is))), h.1)
-entries_turn reach old new line range (filed turns) some is h = absurd h
-entries_turn reach old new line range (reported_as manner turn) some is h = (h.0, plays reach old new line turn (Some (Entries range)) some is h.1)
+    (inr (inr (inl (h.0, subst (λ (r : EntryRange). command_at line ≡ Some (Entries r)) spelled.1 (sym is)))), h.1)
+entries_turn session old new line range (filed turns) some is h = absurd h
+entries_turn session old new line range (reported_as manner turn) some is h = (h.0, plays session.reach old new line turn (Some (Entries range)) some is h.1)
 
-bytes_turn : (reach : Reach) (old new : SessionState) (line : List ℕ) (request : Request) (upload offset : ℕ) (bytes : List ℕ) (turn : SessionTurn) → 0 < length line → Some request ≡ command_at line → ((t : Turn) → IsLinkedPut reach old upload offset bytes t new → IsLinkedCommand reach old (Some request) t new)
-    → IsLinkedBytes reach old upload offset bytes turn new → IsLinkedScriptLine reach old line turn new
-bytes_turn reach old new line request upload offset bytes no_memory some is f h = absurd h
-bytes_turn reach old new line request upload offset bytes (filed turns) some is f h = absurd h
-bytes_turn reach old new line request upload offset bytes (reported_as manner turn) some is f h = (h.0, plays reach old new line turn (Some request) some is (f turn h.1))
+bytes_turn : (session : Session) (old new : SessionState) (line : List ℕ) (request : Request) (upload offset : ℕ) (bytes : List ℕ) (turn : SessionTurn) → 0 < length line → Some request ≡ command_at line → ((t : Turn) → IsLinkedPut session.reach old upload offset bytes t new → IsLinkedCommand session.reach old (Some request) t new)
+    → IsLinkedBytes session.reach old upload offset bytes turn new → IsLinkedScriptLine session old line turn new
+bytes_turn session old new line request upload offset bytes no_memory some is f h = absurd h
+bytes_turn session old new line request upload offset bytes (filed turns) some is f h = absurd h
+bytes_turn session old new line request upload offset bytes (reported_as manner turn) some is f h = (h.0, plays session.reach old new line turn (Some request) some is (f turn h.1))
 
 -- the turn of a script's request is that of its line
-pub script_turn : (reach : Reach) (old new : SessionState) (line whole following rest : List ℕ) (request : Request) (turn : SessionTurn) → 0 < length line → Some request ≡ command_at line → IsLinkedRequest reach old (Some request) whole following turn new rest → IsLinkedScriptLine reach old line turn new × (rest ≡ following)
-script_turn reach old new line whole following rest (Does command) turn some is h = (call_turn reach old new line (Does command) _ turn some is (λ t k. k.1) h.0, h.1)
-script_turn reach old new line whole following rest (Asks question) turn some is h = (call_turn reach old new line (Asks question) _ turn some is (λ t k. k.1) h.0, h.1)
-script_turn reach old new line whole following rest (Put part) turn some is h = (bytes_turn reach old new line (Put part) part.upload part.offset part.bytes turn some is (λ t k. k) h.0, h.1)
-script_turn reach old new line whole following rest (PutRaw part) turn some is h = absurd (found line (PutRaw part) (sym is))
-script_turn reach old new line whole following rest (File filing) turn some is h = absurd (found line (File filing) (sym is))
-script_turn reach old new line whole following rest (Fetch wanted) turn some is h = absurd (found line (Fetch wanted) (sym is))
-script_turn reach old new line whole following rest (Entries range) turn some is h = (entries_turn reach old new line range turn some is h.0, h.1)
+pub script_turn : (session : Session) (old new : SessionState) (line whole following rest : List ℕ) (request : Request) (turn : SessionTurn) → 0 < length line → Some request ≡ command_at line → IsLinkedRequest session old (Some request) whole following turn new rest → IsLinkedScriptLine session old line turn new × (rest ≡ following)
+script_turn session old new line whole following rest (Does command) turn some is h = (change_turn session old new line command turn some is h.0, h.1)
+script_turn session old new line whole following rest (Asks question) turn some is h = (call_turn session old new line (Asks question) _ turn some is (λ t k. k.1) h.0, h.1)
+script_turn session old new line whole following rest (Put part) turn some is h = (bytes_turn session old new line (Put part) part.upload part.offset part.bytes turn some is (λ t k. k) h.0, h.1)
+script_turn session old new line whole following rest (PutRaw part) turn some is h = absurd (found line (PutRaw part) (sym is))
+script_turn session old new line whole following rest (File filing) turn some is h = absurd (found line (File filing) (sym is))
+script_turn session old new line whole following rest (Fetch wanted) turn some is h = absurd (found line (Fetch wanted) (sym is))
+script_turn session old new line whole following rest (Entries range) turn some is h = (entries_turn session old new line range turn some is h.0, h.1)

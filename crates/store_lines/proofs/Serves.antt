@@ -1,5 +1,5 @@
 -- What one line results in, and what it leaves.
-use Rattle.std.proofs.Common.{◌≡◌, ◌<◌, [], ℕ, Bool, true, false, List, ◌∷◌, Ok, Err, Some, None, Option, Result, arith, drop, inl, inr, length, refl, subst, sym}
+use Rattle.std.proofs.Common.{◌≡◌, ◌<◌, [], ℕ, Bool, true, false, List, ◌∷◌, Ok, Err, Some, None, Option, Result, arith, drop, inl, inr, length, refl, subst, sym, take}
 use Rattle.std.specs.Prelude.{IfOk, IfSome, codes}
 use Rattle.std.specs.Io.BufRead.{strip_last}
 use Rattle.std.specs.Io.KnownBytes.{Appends}
@@ -19,18 +19,20 @@ use Rattle.store_lines.specs.declared.request.Request.TheVariants.{File, PutRaw}
 use Rattle.store_lines.specs.declared.session_line.Line.{Line}
 use Rattle.store_lines.specs.declared.session_line.Line.TheVariants as lines
 use Rattle.store_lines.specs.Access.{SessionState, Reach, at}
+use Rattle.store_lines.specs.Filing.{FileTurn}
+use Rattle.store_lines.specs.Owning.{Session}
 use Rattle.store_lines.specs.inner.Reporting.{FilesOver, Leaves, LeavesLineOver, LeavesOver, ReceivesOver, ReportedOver, ServesLineOver, ServesOver, ServesReadOver, ServesRequestOver}
-use Rattle.store_lines.specs.Turns.{IsCut, IsLinkedRequest, IsLinkedScriptLine, MayLack}
+use Rattle.store_lines.specs.Turns.{IsCut, IsLinkedBytes, IsLinkedRequest, IsLinkedScriptLine, MayLack}
 use Rattle.store_lines.proofs.Read.{found}
 use Rattle.store_lines.proofs.Reports.{plays, put_reported, script_turn}
 
 -- ---- a request
 
-pub served_by : (now : Option (List ℕ)) (Wrote : List ℕ → Type 0) (reach : Reach) (was is : SessionState → Type 0) (request : Request) (Is : SessionState → SessionTurn → SessionState → Type 0)
-    → ((whole following : List ℕ) (before : SessionState) (turn : SessionTurn) (after : SessionState) → Is before turn after → IsLinkedRequest reach before (Some request) whole following turn after following) → ReportedOver was is Is Wrote
-    → IfSome now (λ following. ServesRequestOver reach was is true request following now Wrote)
-served_by None Wrote reach was is request Is does t = tt
-served_by (Some following) Wrote reach was is request Is does t = record {
+pub served_by : (now : Option (List ℕ)) (Wrote : List ℕ → Type 0) (session : Session) (was is : SessionState → Type 0) (Has : SessionTurn → Type 0) (request : Request) (Is : SessionState → SessionTurn → SessionState → Type 0)
+    → ((whole following : List ℕ) (before : SessionState) (turn : SessionTurn) (after : SessionState) → Is before turn after → IsLinkedRequest session before (Some request) whole following turn after following × Has turn) → ReportedOver was is Is Wrote
+    → IfSome now (λ following. ServesRequestOver session was is Has true request following now Wrote)
+served_by None Wrote session was is Has request Is does t = tt
+served_by (Some following) Wrote session was is Has request Is does t = record {
   serves = λ whole. (
     following,
     (
@@ -44,12 +46,13 @@ served_by (Some following) Wrote reach was is request Is does t = record {
   );
 }
 
-pub served_raw : (now left : Option (List ℕ)) (Wrote : List ℕ → Type 0) (reach : Reach) (was is : SessionState → Type 0) (part : RawPart) (got : Option Answer) (answer : Answer) → got ≡ Some answer → IfSome now (λ following. ReceivesOver reach was is got part.upload part.offset part.len following left)
-    → Wrote (reported_text [] answer) → IfSome now (λ following. ServesRequestOver reach was is true (PutRaw part) following left Wrote)
-served_raw None left Wrote reach was is part got answer same h wrote = tt
-served_raw (Some following) left Wrote reach was is part got answer same h wrote =
-    let h2 = subst (λ (o : Option Answer). ReceivesOver reach was is o part.upload part.offset part.len following left) same h in
-    let t = put_reported reach was is part.upload part.offset _ answer Wrote h2.2 wrote in
+pub served_raw : (now left : Option (List ℕ)) (Wrote : List ℕ → Type 0) (session : Session) (was is : SessionState → Type 0) (Has : SessionTurn → Type 0) (part : RawPart) (got : Option Answer) (answer : Answer) → got ≡ Some answer
+    → ((bytes : List ℕ) (before : SessionState) (turn : SessionTurn) (after : SessionState) → IsLinkedBytes session.reach before part.upload part.offset bytes turn after → Has turn) → IfSome now (λ following. ReceivesOver session.reach was is got part.upload part.offset part.len following left)
+    → Wrote (reported_text [] answer) → IfSome now (λ following. ServesRequestOver session was is Has true (PutRaw part) following left Wrote)
+served_raw None left Wrote session was is Has part got answer same has h wrote = tt
+served_raw (Some following) left Wrote session was is Has part got answer same has h wrote =
+    let h2 = subst (λ (o : Option Answer). ReceivesOver session.reach was is o part.upload part.offset part.len following left) same h in
+    let t = put_reported session.reach was is part.upload part.offset (take part.len following) answer Wrote h2.2 wrote in
     record {
       serves = λ whole. (
         drop part.len following,
@@ -57,7 +60,7 @@ served_raw (Some following) left Wrote reach was is part got answer same h wrote
           h2.1,
           record {
             turn = t.turn;
-            goes = λ before session. let g = t.goes before session in (g.0, (g.1.0, (g.1.1, h2.0, refl)));
+            goes = λ before stood. let g = t.goes before stood in (g.0, (g.1.0, ((g.1.1, h2.0, refl), has (take part.len following) before t.turn g.0 g.1.1)));
             wrote = t.wrote;
           },
         ),
@@ -72,19 +75,19 @@ pub leaves_now : (now : Option (List ℕ)) (reach : Reach) (was is : SessionStat
 leaves_now None reach was is request l = tt
 leaves_now (Some following) reach was is request l = leaves_over reach was is request following l
 
-pub served_none : (now left w : Option (List ℕ)) (reach : Reach) (was is : SessionState → Type 0) (part : RawPart) (got : Option Answer) → got ≡ None → IfSome now (λ following. ReceivesOver reach was is got part.upload part.offset part.len following left)
-    → IfSome now (λ following. ServesRequestOver reach was is false (PutRaw part) following left (Appends w w))
-served_none None left w reach was is part got same h = tt
-served_none (Some following) left w reach was is part got same h =
-    let h2 = subst (λ (o : Option Answer). ReceivesOver reach was is o part.upload part.offset part.len following left) same h in
-    record { serves = λ whole. (h2.0, Appends-nil w, leaves_over reach was is (Some (PutRaw part)) following h2.1, h2.2) }
+pub served_none : (now left w : Option (List ℕ)) (session : Session) (was is : SessionState → Type 0) (Has : SessionTurn → Type 0) (part : RawPart) (got : Option Answer) → got ≡ None → IfSome now (λ following. ReceivesOver session.reach was is got part.upload part.offset part.len following left)
+    → IfSome now (λ following. ServesRequestOver session was is Has false (PutRaw part) following left (Appends w w))
+served_none None left w session was is Has part got same h = tt
+served_none (Some following) left w session was is Has part got same h =
+    let h2 = subst (λ (o : Option Answer). ReceivesOver session.reach was is o part.upload part.offset part.len following left) same h in
+    record { serves = λ whole. (h2.0, Appends-nil w, leaves_over session.reach was is (Some (PutRaw part)) following h2.1, h2.2) }
 
 -- a file
-pub served_file : (now left : Option (List ℕ)) (Wrote : List ℕ → Type 0) (reach : Reach) (was is : SessionState → Type 0) (filing : Filing) (got : Option Answer) (answer : Answer) → got ≡ Some answer → IfSome now (λ following. FilesOver reach was is got filing following left) → Wrote (reported_text [] answer)
-    → IfSome now (λ following. ServesRequestOver reach was is true (File filing) following left Wrote)
-served_file None left Wrote reach was is filing got answer same h wrote = tt
-served_file (Some following) left Wrote reach was is filing got answer same h wrote =
-    let h2 = subst (λ (o : Option Answer). FilesOver reach was is o filing following left) same h in
+pub served_file : (now left : Option (List ℕ)) (Wrote : List ℕ → Type 0) (session : Session) (was is : SessionState → Type 0) (Has : SessionTurn → Type 0) (filing : Filing) (got : Option Answer) (answer : Answer) → got ≡ Some answer → ((turns : FileTurn) → Has (filed turns))
+    → IfSome now (λ following. FilesOver session.reach was is got filing following left) → Wrote (reported_text [] answer) → IfSome now (λ following. ServesRequestOver session was is Has true (File filing) following left Wrote)
+served_file None left Wrote session was is Has filing got answer same has h wrote = tt
+served_file (Some following) left Wrote session was is Has filing got answer same has h wrote =
+    let h2 = subst (λ (o : Option Answer). FilesOver session.reach was is o filing following left) same h in
     record {
       serves = λ whole. (
         drop filing.len following,
@@ -92,18 +95,18 @@ served_file (Some following) left Wrote reach was is filing got answer same h wr
           h2.1,
           record {
             turn = filed h2.2.turns;
-            goes = λ before session. let g = h2.2.goes before session in (g.0, (g.1.0, (g.1.1, h2.0, refl)));
+            goes = λ before stood. let g = h2.2.goes before stood in (g.0, (g.1.0, ((g.1.1, h2.0, refl), has h2.2.turns)));
             wrote = subst Wrote (h2.2.text_is []) wrote;
           },
         ),
       );
     }
 
-pub served_no_file : (now left w : Option (List ℕ)) (reach : Reach) (was is : SessionState → Type 0) (filing : Filing) (got : Option Answer) → got ≡ None → IfSome now (λ following. FilesOver reach was is got filing following left)
-    → IfSome now (λ following. ServesRequestOver reach was is false (File filing) following left (Appends w w))
-served_no_file None left w reach was is filing got same h = tt
-served_no_file (Some following) left w reach was is filing got same h =
-    let h2 = subst (λ (o : Option Answer). FilesOver reach was is o filing following left) same h in
+pub served_no_file : (now left w : Option (List ℕ)) (session : Session) (was is : SessionState → Type 0) (Has : SessionTurn → Type 0) (filing : Filing) (got : Option Answer) → got ≡ None → IfSome now (λ following. FilesOver session.reach was is got filing following left)
+    → IfSome now (λ following. ServesRequestOver session was is Has false (File filing) following left (Appends w w))
+served_no_file None left w session was is Has filing got same h = tt
+served_no_file (Some following) left w session was is Has filing got same h =
+    let h2 = subst (λ (o : Option Answer). FilesOver session.reach was is o filing following left) same h in
     record { serves = λ whole. (h2.0, Appends-nil w, h2.1, h2.2) }
 
 -- ---- a line
@@ -131,10 +134,10 @@ pub left_has : (now : Option (List ℕ)) (reach : Reach) (was is : SessionState 
 left_has None reach was is line request same l = tt
 left_has (Some following) reach was is line request same l = record { leaves = λ whole own. has_left whole following reach was is request (subst (IsOwnOrScript whole) same own) l }
 
-has_served : (is_whole : Bool) (whole following : List ℕ) (left : Option (List ℕ)) (Wrote : List ℕ → Type 0) (reach : Reach) (was is : SessionState → Type 0) (request : Request) → IsOwnOrScript whole (lines.Has request) → ServesOver reach was is is_whole (Some request) whole following left Wrote
-    → ServesOver reach was is is_whole (request_in whole) whole following left Wrote
-has_served is_whole whole following left Wrote reach was is request (inl own) h = subst (λ (q : Option Request). ServesOver reach was is is_whole q whole following left Wrote) own h
-has_served true whole following left Wrote reach was is request (inr of) h =
+has_served : (is_whole : Bool) (whole following : List ℕ) (left : Option (List ℕ)) (Wrote : List ℕ → Type 0) (session : Session) (was is : SessionState → Type 0) (Has : SessionTurn → Type 0) (request : Request) → IsOwnOrScript whole (lines.Has request) → ServesOver session was is Has is_whole (Some request) whole following left Wrote
+    → ServesOver session was is Has is_whole (request_in whole) whole following left Wrote
+has_served is_whole whole following left Wrote session was is Has request (inl own) h = subst (λ (q : Option Request). ServesOver session was is Has is_whole q whole following left Wrote) own h
+has_served true whole following left Wrote session was is Has request (inr of) h =
     let t = h.1.1 in
     let read : (0 < length (strip_last 10 whole)) × (Some request ≡ command_at (strip_last 10 whole)) = of.1 in (
       h.0,
@@ -142,34 +145,34 @@ has_served true whole following left Wrote reach was is request (inr of) h =
         h.1.0,
         record {
           turn = t.turn;
-          goes = λ before session.
-              let g = t.goes before session in
-              (g.0, (g.1.0, subst (λ (q : Option Request). IsLinkedRequest reach before q whole following t.turn g.0 h.0) of.0 (script_turn reach before g.0 (strip_last 10 whole) whole following h.0 request t.turn read.0 read.1 g.1.1)));
+          goes = λ before stood.
+              let g = t.goes before stood in
+              (g.0, (g.1.0, (subst (λ (q : Option Request). IsLinkedRequest session before q whole following t.turn g.0 h.0) of.0 (script_turn session before g.0 (strip_last 10 whole) whole following h.0 request t.turn read.0 read.1 g.1.1.0), g.1.1.1)));
           wrote = t.wrote;
         },
       ),
     )
-has_served false whole following left Wrote reach was is request (inr of) h =
+has_served false whole following left Wrote session was is Has request (inr of) h =
     let read : (0 < length (strip_last 10 whole)) × (Some request ≡ command_at (strip_last 10 whole)) = of.1 in
     absurd (not_short (strip_last 10 whole) following request read.1 h.0)
 
-pub served_has : (is_whole : Bool) (now left : Option (List ℕ)) (Wrote : List ℕ → Type 0) (reach : Reach) (was is : SessionState → Type 0) (line : Line) (request : Request) → line ≡ lines.Has request
-    → IfSome now (λ following. ServesRequestOver reach was is is_whole request following left Wrote) → IfSome now (λ following. ServesLineOver reach was is is_whole line following left Wrote)
-served_has is_whole None left Wrote reach was is line request same h = tt
-served_has is_whole (Some following) left Wrote reach was is line request same h = record {
-  serves = λ whole own. has_served is_whole whole following left Wrote reach was is request (subst (IsOwnOrScript whole) same own) (h.serves whole);
+pub served_has : (is_whole : Bool) (now left : Option (List ℕ)) (Wrote : List ℕ → Type 0) (session : Session) (was is : SessionState → Type 0) (Has : SessionTurn → Type 0) (line : Line) (request : Request) → line ≡ lines.Has request
+    → IfSome now (λ following. ServesRequestOver session was is Has is_whole request following left Wrote) → IfSome now (λ following. ServesLineOver session was is Has is_whole line following left Wrote)
+served_has is_whole None left Wrote session was is Has line request same h = tt
+served_has is_whole (Some following) left Wrote session was is Has line request same h = record {
+  serves = λ whole own. has_served is_whole whole following left Wrote session was is Has request (subst (IsOwnOrScript whole) same own) (h.serves whole);
 }
 
-pub served_has_ok : {E : Type 0} (r : Result Bool E) (now left : Option (List ℕ)) (Wrote : List ℕ → Type 0) (reach : Reach) (was is : SessionState → Type 0) (line : Line) (request : Request) → line ≡ lines.Has request
-    → IfOk r (λ is_whole. IfSome now (λ following. ServesRequestOver reach was is is_whole request following left Wrote)) → IfOk r (λ is_whole. IfSome now (λ following. ServesLineOver reach was is is_whole line following left Wrote))
-served_has_ok (Err e) now left Wrote reach was is line request same h = tt
-served_has_ok (Ok is_whole) now left Wrote reach was is line request same h = served_has is_whole now left Wrote reach was is line request same h
+pub served_has_ok : {E : Type 0} (r : Result Bool E) (now left : Option (List ℕ)) (Wrote : List ℕ → Type 0) (session : Session) (was is : SessionState → Type 0) (Has : SessionTurn → Type 0) (line : Line) (request : Request) → line ≡ lines.Has request
+    → IfOk r (λ is_whole. IfSome now (λ following. ServesRequestOver session was is Has is_whole request following left Wrote)) → IfOk r (λ is_whole. IfSome now (λ following. ServesLineOver session was is Has is_whole line following left Wrote))
+served_has_ok (Err e) now left Wrote session was is Has line request same h = tt
+served_has_ok (Ok is_whole) now left Wrote session was is Has line request same h = served_has is_whole now left Wrote session was is Has line request same h
 
 -- the turn of a line without a request
-line_served : (now : Option (List ℕ)) (Wrote : List ℕ → Type 0) (reach : Reach) (was : SessionState → Type 0) (line : Line) (turn : SessionTurn) → ((whole : List ℕ) → IsOwnOrScript whole line → (None ≡ request_in whole) × IsLineOf (strip_last 10 whole) line)
-    → ((text : List ℕ) (before : SessionState) → IsLineOf text line → IsLinkedScriptLine reach before text turn before) → Wrote (session_turn_text turn) → IfSome now (λ following. ServesLineOver reach was was true line following now Wrote)
-line_served None Wrote reach was line turn script goes wrote = tt
-line_served (Some following) Wrote reach was line turn script goes wrote = record {
+line_served : (now : Option (List ℕ)) (Wrote : List ℕ → Type 0) (session : Session) (was : SessionState → Type 0) (Has : SessionTurn → Type 0) (line : Line) (turn : SessionTurn) → ((whole : List ℕ) → IsOwnOrScript whole line → (None ≡ request_in whole) × IsLineOf (strip_last 10 whole) line)
+    → ((text : List ℕ) (before : SessionState) → IsLineOf text line → IsLinkedScriptLine session before text turn before) → Has turn → Wrote (session_turn_text turn) → IfSome now (λ following. ServesLineOver session was was Has true line following now Wrote)
+line_served None Wrote session was Has line turn script goes has wrote = tt
+line_served (Some following) Wrote session was Has line turn script goes has wrote = record {
   serves = λ whole own.
       let of = script whole own in (
         following,
@@ -177,38 +180,38 @@ line_served (Some following) Wrote reach was line turn script goes wrote = recor
           refl,
           record {
             turn = turn;
-            goes = λ before session. (before, (session, subst (λ (q : Option Request). IsLinkedRequest reach before q whole following turn before following) of.0 (goes (strip_last 10 whole) before of.1, refl)));
+            goes = λ before stood. (before, (stood, (subst (λ (q : Option Request). IsLinkedRequest session before q whole following turn before following) of.0 (goes (strip_last 10 whole) before of.1, refl), has)));
             wrote = wrote;
           },
         ),
       );
 }
 
-empty_turn : (reach : Reach) (text : List ℕ) (before : SessionState) → length text ≡ 0 → IsLinkedScriptLine reach before text (reported_as as_script skipped) before
-empty_turn reach [] before none = (refl, (refl, refl))
-empty_turn reach (b ∷ text) before none = absurd (omega (arith, none))
+empty_turn : (session : Session) (text : List ℕ) (before : SessionState) → length text ≡ 0 → IsLinkedScriptLine session before text (reported_as as_script skipped) before
+empty_turn session [] before none = (refl, (refl, refl))
+empty_turn session (b ∷ text) before none = absurd (omega (arith, none))
 
-may_lack : (reach : Reach) (text : List ℕ) → MayTakeMemory text → MayLack reach text
-may_lack reach text (inl long) = inl long
-may_lack reach text (inr puts_it) = inr (inl puts_it)
+may_lack : (session : Session) (text : List ℕ) → MayTakeMemory text → MayLack session text
+may_lack session text (inl long) = inl long
+may_lack session text (inr puts_it) = inr (inl puts_it)
 
-pub served_empty : (now : Option (List ℕ)) (Wrote : List ℕ → Type 0) (reach : Reach) (was : SessionState → Type 0) (line : Line) → line ≡ lines.Empty → Wrote [] → IfSome now (λ following. ServesLineOver reach was was true line following now Wrote)
-served_empty now Wrote reach was line same wrote =
-    subst (λ (l : Line). IfSome now (λ following. ServesLineOver reach was was true l following now Wrote)) (sym same)
-    (line_served now Wrote reach was lines.Empty (reported_as as_script skipped) (λ whole h. h) (λ text before none. empty_turn reach text before none) wrote)
+pub served_empty : (now : Option (List ℕ)) (Wrote : List ℕ → Type 0) (session : Session) (was : SessionState → Type 0) (Has : SessionTurn → Type 0) (line : Line) → line ≡ lines.Empty → Has (reported_as as_script skipped) → Wrote [] → IfSome now (λ following. ServesLineOver session was was Has true line following now Wrote)
+served_empty now Wrote session was Has line same has wrote =
+    subst (λ (l : Line). IfSome now (λ following. ServesLineOver session was was Has true l following now Wrote)) (sym same)
+    (line_served now Wrote session was Has lines.Empty (reported_as as_script skipped) (λ whole h. h) (λ text before none. empty_turn session text before none) has wrote)
 
-pub served_bad : (now : Option (List ℕ)) (Wrote : List ℕ → Type 0) (reach : Reach) (was : SessionState → Type 0) (line : Line) → line ≡ lines.Bad → Wrote (codes "bad\n") → IfSome now (λ following. ServesLineOver reach was was true line following now Wrote)
-served_bad now Wrote reach was line same wrote =
-    subst (λ (l : Line). IfSome now (λ following. ServesLineOver reach was was true l following now Wrote)) (sym same)
-    (line_served now Wrote reach was lines.Bad (reported_as as_script bad) (λ whole h. h) (λ text before is. (refl, plays reach before before text bad None is.0 is.1 (refl, refl))) wrote)
+pub served_bad : (now : Option (List ℕ)) (Wrote : List ℕ → Type 0) (session : Session) (was : SessionState → Type 0) (Has : SessionTurn → Type 0) (line : Line) → line ≡ lines.Bad → Has (reported_as as_script bad) → Wrote (codes "bad\n") → IfSome now (λ following. ServesLineOver session was was Has true line following now Wrote)
+served_bad now Wrote session was Has line same has wrote =
+    subst (λ (l : Line). IfSome now (λ following. ServesLineOver session was was Has true l following now Wrote)) (sym same)
+    (line_served now Wrote session was Has lines.Bad (reported_as as_script bad) (λ whole h. h) (λ text before is. (refl, plays session.reach before before text bad None is.0 is.1 (refl, refl))) has wrote)
 
-pub served_lost : (now : Option (List ℕ)) (Wrote : List ℕ → Type 0) (reach : Reach) (was : SessionState → Type 0) (line : Line) → line ≡ lines.Lost → Wrote (session_turn_text no_memory) → IfSome now (λ following. ServesLineOver reach was was true line following now Wrote)
-served_lost now Wrote reach was line same wrote =
-    subst (λ (l : Line). IfSome now (λ following. ServesLineOver reach was was true l following now Wrote)) (sym same)
-    (line_served now Wrote reach was lines.Lost no_memory (λ whole h. h) (λ text before may. (may_lack reach text may, refl)) wrote)
+pub served_lost : (now : Option (List ℕ)) (Wrote : List ℕ → Type 0) (session : Session) (was : SessionState → Type 0) (Has : SessionTurn → Type 0) (line : Line) → line ≡ lines.Lost → Has no_memory → Wrote (session_turn_text no_memory) → IfSome now (λ following. ServesLineOver session was was Has true line following now Wrote)
+served_lost now Wrote session was Has line same has wrote =
+    subst (λ (l : Line). IfSome now (λ following. ServesLineOver session was was Has true l following now Wrote)) (sym same)
+    (line_served now Wrote session was Has lines.Lost no_memory (λ whole h. h) (λ text before may. (may_lack session text may, refl)) has wrote)
 
 -- a line that was read
-pub served_read : (is_whole : Bool) (now left : Option (List ℕ)) (Wrote : List ℕ → Type 0) (reach : Reach) (was is : SessionState → Type 0) (read : LineRead) (kept : List ℕ) (line : Line) → IsFound read kept line → IfSome now (λ following. ServesLineOver reach was is is_whole line following left Wrote)
-    → IfSome now (λ following. ServesReadOver reach was is is_whole read kept following left Wrote)
-served_read is_whole None left Wrote reach was is read kept line f h = tt
-served_read is_whole (Some following) left Wrote reach was is read kept line f h = record { serves = λ whole r. h.serves whole (f.is whole r) }
+pub served_read : (is_whole : Bool) (now left : Option (List ℕ)) (Wrote : List ℕ → Type 0) (session : Session) (was is : SessionState → Type 0) (Has : SessionTurn → Type 0) (read : LineRead) (kept : List ℕ) (line : Line) → IsFound read kept line → IfSome now (λ following. ServesLineOver session was is Has is_whole line following left Wrote)
+    → IfSome now (λ following. ServesReadOver session was is Has is_whole read kept following left Wrote)
+served_read is_whole None left Wrote session was is Has read kept line f h = tt
+served_read is_whole (Some following) left Wrote session was is Has read kept line f h = record { serves = λ whole r. h.serves whole (f.is whole r) }

@@ -13,15 +13,17 @@ use Rattle.store_lines.specs.declared.request.Request.TheVariants.{Asks, Does, E
 use Rattle.store_lines.specs.Script.{range_entries}
 use Rattle.store_lines.specs.Script as script
 use Rattle.store_lines.specs.Requests.{request_in}
-use Rattle.store_lines.specs.Session.{AreSessionTurns, IsTurnOfBytes, IsTurnOfEntries, IsTurnOfFirstLine, IsTurnOfCall, IsPartPut, IsTurnOfFile, IsTurnOfRequest, IsTurnOfScriptLine, Manner, MayTakeMemory, SessionTurn, filed, no_memory, reported_as}
+use Rattle.store_lines.specs.Session.{AreSessionTurns, IsTurnOfBytes, IsTurnOfEntries, IsTurnOfFirstLine, IsTurnOfCall, IsPartPut, IsTurnOfFile, IsTurnOfRequest, IsTurnOfScriptLine, Manner, MayTakeMemory, SessionTurn, as_script, filed, no_memory, reported_as}
 use Rattle.store_lines.specs.Filing.{ArePut, FileTurn, IsFiled, IsOver, IsOutcome, begun, is_accepted, numbered_part, opening, closing, unbegun}
 use Rattle.store_lines.specs.declared.request.EntryRange.{EntryRange}
 use Rattle.store_lines.specs.declared.request.Filing.{Filing}
+use Rattle.store_core.specs.declared.command.Command.{Command}
 use Rattle.store_core.specs.declared.command.Command.TheVariants as commands
 use Rattle.store_upload.specs.Uploads.{UploadPlan, max_part_bytes, part_fault}
 use Rattle.store_upload.specs.declared.refusal.PartFault.{PartFault}
 use Rattle.store_lines.specs.Access.{SessionState, alone_reach, at}
-use Rattle.store_lines.specs.Turns.{AreLinkedSteps, AreLinkedTurns, IsLinkedBytes, IsLinkedCommand, IsLinkedEntries, IsLinkedFile, IsLinkedFirstLine, IsLinkedLine, IsLinkedListing, IsLinkedMade, IsLinkedPart, IsLinkedPlan, IsLinkedPut, IsLinkedCall, IsLinkedRequest, IsLinkedScriptLine, IsLinkedStep, MayLack}
+use Rattle.store_lines.specs.Owning.{alone}
+use Rattle.store_lines.specs.Turns.{AreLinkedSteps, AreLinkedTurns, IsLinkedBytes, IsLinkedChange, IsLinkedCommand, IsLinkedEntries, IsLinkedFile, IsLinkedFirstLine, IsLinkedLine, IsLinkedListing, IsLinkedMade, IsLinkedPart, IsLinkedPlan, IsLinkedPut, IsLinkedCall, IsLinkedRequest, IsLinkedScriptLine, IsLinkedStep, MayLack}
 
 same : {old new : SessionState} → new ≡ old → new.store ≡ old.store
 same h = ap (λ (s : SessionState). s.store) h
@@ -66,12 +68,13 @@ of_line : (old new : SessionState) (line : List ℕ) (turn : script.Turn) → Is
 of_line old new [] turn h = (h.0, same h.1)
 of_line old new (b ∷ line) turn h = of_command old new (command_at (b ∷ line)) turn h
 
-of_lack : (line : List ℕ) → MayLack alone_reach line → MayTakeMemory line
+of_lack : (line : List ℕ) → MayLack alone line → MayTakeMemory line
 of_lack line (inl long) = inl long
 of_lack line (inr (inl puts_it)) = inr puts_it
-of_lack line (inr (inr lacks)) = absurd lacks.0
+of_lack line (inr (inr (inl lacks))) = absurd lacks.0
+of_lack line (inr (inr (inr begins))) = absurd (let kept = begins.0 in cc)
 
-of_script : (old new : SessionState) (line : List ℕ) (turn : SessionTurn) → IsLinkedScriptLine alone_reach old line turn new → IsTurnOfScriptLine old.store line turn new.store
+of_script : (old new : SessionState) (line : List ℕ) (turn : SessionTurn) → IsLinkedScriptLine alone old line turn new → IsTurnOfScriptLine old.store line turn new.store
 of_script old new line no_memory h = (of_lack line h.0, same h.1)
 of_script old new line (reported_as manner turn) h = (h.0, of_line old new line turn h.1)
 of_script old new line (filed turns) h = h
@@ -80,6 +83,11 @@ of_call : (manner : Manner) (old new : SessionState) (call : Call) (turn : Sessi
 of_call manner old new call no_memory h = h
 of_call manner old new call (reported_as reported turn) h = (h.0, of_step old new call turn h.1)
 of_call manner old new call (filed turns) h = h
+
+of_change : (old new : SessionState) (command : Command) (turn : SessionTurn) → IsLinkedChange alone old command turn new → IsTurnOfCall as_script old.store (change command) turn new.store
+of_change old new command no_memory h = absurd (let kept = h.0 in cc)
+of_change old new command (reported_as reported turn) h = (h.0, of_step old new (change command) turn h.1)
+of_change old new command (filed turns) h = h
 
 of_entries : (range : EntryRange) (old new : SessionState) (turn : SessionTurn) → IsLinkedEntries alone_reach range old turn new → IsTurnOfEntries old.store range turn new.store
 of_entries range old new no_memory h = absurd h.0
@@ -121,9 +129,9 @@ module _ (filing : Filing) (bytes : List ℕ) where
   of_file old new (reported_as manner turn) h = h
   of_file old new (filed turns) h = of_filed old new turns h
 
-of_request : (old new : SessionState) (request : Option Request) (whole following : List ℕ) (turn : SessionTurn) (rest : List ℕ) → IsLinkedRequest alone_reach old request whole following turn new rest → IsTurnOfRequest old.store request whole following turn new.store rest
+of_request : (old new : SessionState) (request : Option Request) (whole following : List ℕ) (turn : SessionTurn) (rest : List ℕ) → IsLinkedRequest alone old request whole following turn new rest → IsTurnOfRequest old.store request whole following turn new.store rest
 of_request old new None whole following turn rest h = (of_script old new (strip_last 10 whole) turn h.0, h.1)
-of_request old new (Some (Does command)) whole following turn rest h = (of_call _ old new (change command) turn h.0, h.1)
+of_request old new (Some (Does command)) whole following turn rest h = (of_change old new command turn h.0, h.1)
 of_request old new (Some (Asks question)) whole following turn rest h = (of_call _ old new (ask question) turn h.0, h.1)
 of_request old new (Some (Put part)) whole following turn rest h = (of_bytes old new part.upload part.offset part.bytes turn h.0, h.1)
 of_request old new (Some (PutRaw part)) whole following turn rest h = (of_bytes old new part.upload part.offset (take part.len following) turn h.0, h.1, h.2)
@@ -131,9 +139,9 @@ of_request old new (Some (File filing)) whole following turn rest h = (of_file f
 of_request old new (Some (Fetch wanted)) whole following turn rest h = (of_call _ old new (ask (questions.Fetch wanted.tenant wanted.address)) turn h.0, h.1)
 of_request old new (Some (Entries range)) whole following turn rest h = (of_entries range old new turn h.0, h.1)
 
-of_first : (old new : SessionState) (input : List ℕ) (turn : SessionTurn) (rest : List ℕ) → IsLinkedFirstLine alone_reach old input turn new rest → IsTurnOfFirstLine old.store input turn new.store rest
+of_first : (old new : SessionState) (input : List ℕ) (turn : SessionTurn) (rest : List ℕ) → IsLinkedFirstLine alone old input turn new rest → IsTurnOfFirstLine old.store input turn new.store rest
 of_first old new input turn rest h = (h.0, of_request old new (request_in (take_through 10 input)) (take_through 10 input) (drop_through 10 input) turn rest h.2)
 
-pub of_turns : (old new : SessionState) (input rest : List ℕ) (turns : List SessionTurn) → AreLinkedTurns alone_reach old input turns new rest → AreSessionTurns old.store input turns new.store rest
+pub of_turns : (old new : SessionState) (input rest : List ℕ) (turns : List SessionTurn) → AreLinkedTurns alone old input turns new rest → AreSessionTurns old.store input turns new.store rest
 of_turns old new input rest [] h = (same h.0, h.1)
 of_turns old new input rest (turn ∷ turns) h = (h.0.store, h.1, of_first old h.0 input turn h.1 h.2, of_turns h.0 new h.1 rest turns h.3)

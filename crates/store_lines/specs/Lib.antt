@@ -10,5 +10,6 @@ pub mod Requests
 pub mod Filing
 pub mod Session
 pub mod Access
+pub mod Owning
 pub mod Turns
 pub mod inner

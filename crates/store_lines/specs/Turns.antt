@@ -28,6 +28,10 @@ use Rattle.store_upload.specs.Uploads.{UploadPlan, part_fault}
 use Rattle.store_upload.specs.declared.refusal.PartFault.{PartFault}
 use Rattle.store_upload.specs.declared.refusal.PartFault.TheVariants as faults
 use Rattle.store_lines.specs.Access.{IsSince, Reach, SessionState, at, took_bytes, took_calls, took_numbers}
+use Rattle.store_lines.specs.Owning.{IsBeginLine, Session, begins, own_of}
+use Rattle.store_lines.specs.declared.owning.UploadsAtEnd.TheVariants as at_end
+use Rattle.store_core.specs.declared.command.Command.{Command}
+use Rattle.store_core.specs.declared.command.Command.TheVariants as commands
 
 -- ---- one line: its turn after a state that was left, and its effect
 
@@ -85,20 +89,28 @@ abbrev pub IsLinkedLine : Reach → SessionState → List ℕ → Turn → Sessi
 IsLinkedLine reach old [] turn new = (turn ≡ skipped) × (new ≡ old)
 IsLinkedLine reach old (b ∷ line) turn new = IsLinkedCommand reach old (command_at (b ∷ line)) turn new
 
--- a line may allocate: if it is long, or puts a part, or asks for the journal and that is copied
-abbrev pub MayLack : Reach → List ℕ → Type 0
-MayLack reach line = (max_request ≤ length line) ⊎ (IsPutLine line ⊎ (reach.lacks × (command_at line ≡ Some (Entries whole_journal))))
+-- a line may allocate: if it is long, or puts a part, or asks for the journal and that is copied, or begins an upload that the session has to
+-- abort at its end
+abbrev pub MayLack : Session → List ℕ → Type 0
+MayLack session line = (max_request ≤ length line) ⊎ (IsPutLine line ⊎ ((session.reach.lacks × (command_at line ≡ Some (Entries whole_journal))) ⊎ ((session.at_end ≡ at_end.Aborted) × IsBeginLine line)))
 
-abbrev pub IsLinkedScriptLine : Reach → SessionState → List ℕ → SessionTurn → SessionState → Type 0
-IsLinkedScriptLine reach old line no_memory new = MayLack reach line × (new ≡ old)
-IsLinkedScriptLine reach old line (reported_as manner turn) new = (manner ≡ as_script) × IsLinkedLine reach old line turn new
-IsLinkedScriptLine reach old line (filed turns) new = ⊥
+abbrev pub IsLinkedScriptLine : Session → SessionState → List ℕ → SessionTurn → SessionState → Type 0
+IsLinkedScriptLine session old line no_memory new = MayLack session line × (new ≡ old)
+IsLinkedScriptLine session old line (reported_as manner turn) new = (manner ≡ as_script) × IsLinkedLine session.reach old line turn new
+IsLinkedScriptLine session old line (filed turns) new = ⊥
 
 -- one step, with its answer written in a manner
 abbrev pub IsLinkedCall : Reach → Manner → SessionState → Call → SessionTurn → SessionState → Type 0
 IsLinkedCall reach manner old call no_memory new = ⊥
 IsLinkedCall reach manner old call (reported_as reported turn) new = (reported ≡ manner) × IsLinkedStep reach old call turn new
 IsLinkedCall reach manner old call (filed turns) new = ⊥
+
+-- A command. An allocation may fail for the number of an upload that it begins, if the session has to abort it at its end: then it is not
+-- executed.
+abbrev pub IsLinkedChange : Session → SessionState → Command → SessionTurn → SessionState → Type 0
+IsLinkedChange session old command no_memory new = (session.at_end ≡ at_end.Aborted) × (begins command ≡ true) × (new ≡ old)
+IsLinkedChange session old command (reported_as reported turn) new = (reported ≡ as_script) × IsLinkedStep session.reach old (change command) turn new
+IsLinkedChange session old command (filed turns) new = ⊥
 
 -- the journal's entries, for which an allocation may fail
 abbrev pub IsLinkedEntries : Reach → EntryRange → SessionState → SessionTurn → SessionState → Type 0
@@ -120,18 +132,18 @@ IsLinkedFile reach old filing bytes (filed turns) new = AreLinkedSteps reach fil
 IsLinkedFile reach old filing bytes _ new = ⊥
 
 -- the turn of a line with this request, its effect, and the bytes that remain after it
-abbrev pub IsLinkedRequest : Reach → SessionState → Option Request → List ℕ → List ℕ → SessionTurn → SessionState → List ℕ → Type 0
-IsLinkedRequest reach old None whole following turn new rest = IsLinkedScriptLine reach old (strip_last 10 whole) turn new × (rest ≡ following)
-IsLinkedRequest reach old (Some (Does command)) whole following turn new rest = IsLinkedCall reach as_script old (change command) turn new × (rest ≡ following)
-IsLinkedRequest reach old (Some (Asks question)) whole following turn new rest = IsLinkedCall reach as_script old (ask question) turn new × (rest ≡ following)
-IsLinkedRequest reach old (Some (Put part)) whole following turn new rest = IsLinkedBytes reach old part.upload part.offset part.bytes turn new × (rest ≡ following)
-IsLinkedRequest reach old (Some (PutRaw part)) whole following turn new rest = IsLinkedBytes reach old part.upload part.offset (take part.len following) turn new × (part.len ≤ length following) × (rest ≡ drop part.len following)
-IsLinkedRequest reach old (Some (File filing)) whole following turn new rest = IsLinkedFile reach old filing following turn new × (filing.len ≤ length following) × (rest ≡ drop filing.len following)
-IsLinkedRequest reach old (Some (Fetch wanted)) whole following turn new rest = IsLinkedCall reach (as_range wanted.range) old (ask (questions.Fetch wanted.tenant wanted.address)) turn new × (rest ≡ following)
-IsLinkedRequest reach old (Some (Entries range)) whole following turn new rest = IsLinkedEntries reach range old turn new × (rest ≡ following)
+abbrev pub IsLinkedRequest : Session → SessionState → Option Request → List ℕ → List ℕ → SessionTurn → SessionState → List ℕ → Type 0
+IsLinkedRequest session old None whole following turn new rest = IsLinkedScriptLine session old (strip_last 10 whole) turn new × (rest ≡ following)
+IsLinkedRequest session old (Some (Does command)) whole following turn new rest = IsLinkedChange session old command turn new × (rest ≡ following)
+IsLinkedRequest session old (Some (Asks question)) whole following turn new rest = IsLinkedCall session.reach as_script old (ask question) turn new × (rest ≡ following)
+IsLinkedRequest session old (Some (Put part)) whole following turn new rest = IsLinkedBytes session.reach old part.upload part.offset part.bytes turn new × (rest ≡ following)
+IsLinkedRequest session old (Some (PutRaw part)) whole following turn new rest = IsLinkedBytes session.reach old part.upload part.offset (take part.len following) turn new × (part.len ≤ length following) × (rest ≡ drop part.len following)
+IsLinkedRequest session old (Some (File filing)) whole following turn new rest = IsLinkedFile session.reach old filing following turn new × (filing.len ≤ length following) × (rest ≡ drop filing.len following)
+IsLinkedRequest session old (Some (Fetch wanted)) whole following turn new rest = IsLinkedCall session.reach (as_range wanted.range) old (ask (questions.Fetch wanted.tenant wanted.address)) turn new × (rest ≡ following)
+IsLinkedRequest session old (Some (Entries range)) whole following turn new rest = IsLinkedEntries session.reach range old turn new × (rest ≡ following)
 
-abbrev pub IsLinkedFirstLine : Reach → SessionState → List ℕ → SessionTurn → SessionState → List ℕ → Type 0
-IsLinkedFirstLine reach old input turn new rest = (0 < length input) × (reach.needs_newline ≡ true → HasNewline (take_through 10 input)) × IsLinkedRequest reach old (request_in (take_through 10 input)) (take_through 10 input) (drop_through 10 input) turn new rest
+abbrev pub IsLinkedFirstLine : Session → SessionState → List ℕ → SessionTurn → SessionState → List ℕ → Type 0
+IsLinkedFirstLine session old input turn new rest = (0 < length input) × (session.reach.needs_newline ≡ true → HasNewline (take_through 10 input)) × IsLinkedRequest session old (request_in (take_through 10 input)) (take_through 10 input) (drop_through 10 input) turn new rest
 
 -- ---- a session
 
@@ -141,9 +153,9 @@ EndsOver reach verdicts.Good rest = rest ≡ []
 EndsOver reach verdicts.Refused rest = Ends verdicts.Refused rest ⊎ ((reach.needs_newline ≡ true) × (0 < length rest) × (HasNewline (take_through 10 rest) → ⊥))
 
 -- lines in order, each with its turn, from states that are linked to what was left before
-abbrev pub AreLinkedTurns : Reach → SessionState → List ℕ → List SessionTurn → SessionState → List ℕ → Type 0
-AreLinkedTurns reach old input [] new rest = (new ≡ old) × (rest ≡ input)
-AreLinkedTurns reach old input (turn ∷ turns) new rest = (mid : SessionState) × (following : List ℕ) × IsLinkedFirstLine reach old input turn mid following × AreLinkedTurns reach mid following turns new rest
+abbrev pub AreLinkedTurns : Session → SessionState → List ℕ → List SessionTurn → SessionState → List ℕ → Type 0
+AreLinkedTurns session old input [] new rest = (new ≡ old) × (rest ≡ input)
+AreLinkedTurns session old input (turn ∷ turns) new rest = (mid : SessionState) × (following : List ℕ) × IsLinkedFirstLine session old input turn mid following × AreLinkedTurns session mid following turns new rest
 
 -- Some parts of a file were put, and it was aborted.
 pub record IsCutShort (reach : Reach) (old : SessionState) (filing : Filing) (bytes : List ℕ) (new : SessionState) : Type 0 where
@@ -169,31 +181,40 @@ IsCut reach old _ following new = ⊥
 abbrev pub IsLeft : Reach → SessionState → Option Request → List ℕ → SessionState → Type 0
 IsLeft reach old request following new = ((left : ModelStore) × IsSince reach old.store left × (new ≡ at old left)) ⊎ IsCut reach old request following new
 
+-- uploads were aborted in turn, each in a state that is linked to what was left before, unless that was refused
+abbrev pub AreAborted : Reach → SessionState → List ℕ → SessionState → Type 0
+AreAborted reach old [] new = new ≡ old
+AreAborted reach old (upload ∷ uploads) new = (turn : Turn) × (mid : SessionState) × IsLinkedStep reach old (change (commands.Abort upload)) turn mid × AreAborted reach mid uploads new
+
+-- After the turns, the session aborted its own uploads, if it doesn't keep them.
+abbrev pub Finishes : Session → (SessionState → Type 0) → List SessionTurn → SessionState → Type 0
+Finishes session is turns last = (done : SessionState) × (AreAborted session.reach last (own_of session.at_end turns) done × is done)
+
 -- Lines of a prefix of the input were answered in order, whatever was left before the session. The account is the session's own in the end,
--- with what the next line left that isn't answered.
-pub record ServedOver (reach : Reach) (was is : SessionState → Type 0) (input output rest : List ℕ) : Type 0 where
+-- with what the next line left that isn't answered. Then this follows.
+pub record ServedOver (session : Session) (was : SessionState → Type 0) (Then : List SessionTurn → SessionState → Type 0) (input output rest : List ℕ) : Type 0 where
   pub turns : List SessionTurn
-  pub plays : (start : SessionState) → was start → (end : SessionState) × (AreLinkedTurns reach start input turns end rest × ((last : SessionState) × (IsLeft reach end (request_in (take_through 10 rest)) (drop_through 10 rest) last × is last)))
+  pub plays : (start : SessionState) → was start → (end : SessionState) × (AreLinkedTurns session start input turns end rest × ((last : SessionState) × (IsLeft session.reach end (request_in (take_through 10 rest)) (drop_through 10 rest) last × Then turns last)))
   pub text_is : output ≡ flat_map session_turn_text turns
 
 -- the writer grew by the answers to the lines of a prefix of the input
-pub record ServedSomeOver (reach : Reach) (was is : SessionState → Type 0) (input : List ℕ) (old new : Option (List ℕ)) : Type 0 where
+pub record ServedSomeOver (session : Session) (was : SessionState → Type 0) (Then : List SessionTurn → SessionState → Type 0) (input : List ℕ) (old new : Option (List ℕ)) : Type 0 where
   pub output : List ℕ
   pub rest : List ℕ
-  pub answered : ServedOver reach was is input output rest
+  pub answered : ServedOver session was Then input output rest
   pub wrote : Appends old new output
 
 -- and the session reached its end
-pub record ServedAllOver (reach : Reach) (was is : SessionState → Type 0) (input : List ℕ) (old new : Option (List ℕ)) (verdict : Verdict) : Type 0 where
+pub record ServedAllOver (session : Session) (was : SessionState → Type 0) (Then : List SessionTurn → SessionState → Type 0) (input : List ℕ) (old new : Option (List ℕ)) (verdict : Verdict) : Type 0 where
   pub output : List ℕ
   pub rest : List ℕ
-  pub answered : ServedOver reach was is input output rest
-  pub ends : EndsOver reach verdict rest
+  pub answered : ServedOver session was Then input output rest
+  pub ends : EndsOver session.reach verdict rest
   pub wrote : Appends old new output
 
 -- A write failed: the writer grew by a prefix of the answers to the lines of a prefix of the input, the last of which was being written.
-pub record ServedCutOver (reach : Reach) (was is : SessionState → Type 0) (input : List ℕ) (old new : Option (List ℕ)) : Type 0 where
+pub record ServedCutOver (session : Session) (was : SessionState → Type 0) (Then : List SessionTurn → SessionState → Type 0) (input : List ℕ) (old new : Option (List ℕ)) : Type 0 where
   pub output : List ℕ
   pub rest : List ℕ
-  pub answered : ServedOver reach was is input output rest
+  pub answered : ServedOver session was Then input output rest
   pub wrote : WroteSome old new output

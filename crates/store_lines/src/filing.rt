@@ -116,8 +116,8 @@ fn fill<A: Access, R: BufRead>(
     }
 }
 
-// Aborts the upload, unless that is refused.
-fn abort<A: Access>(access: &mut A, upload: UploadId, work: &mut Work)
+/// Aborts the upload, unless that is refused.
+pub(crate) fn abort<A: Access>(access: &mut A, upload: UploadId, work: &mut Work)
     ensures { (reply : Result ModelReply Refusal) × Took A.reach (A.stands access.old) (A.stands access.new) (change (commands.Abort upload)) reply }
 {
     let _reply = access.step(Command::Abort { upload }, work);

@@ -22,7 +22,9 @@ use Rattle.store_lines.specs.declared.request.Request.{Request}
 use Rattle.store_lines.specs.declared.request.Request.TheVariants.{File}
 use Rattle.store_lines.specs.Access.{IsSince, Reach, SessionState, at}
 use Rattle.store_upload.specs.Uploads.{max_part_bytes}
-use Rattle.store_lines.specs.Turns.{AreLinkedSteps, IsLeft, IsLinkedPut, IsLinkedRequest, IsLinkedStep}
+use Rattle.store_lines.specs.Owning.{Session, own_after, own_of}
+use Rattle.store_lines.specs.declared.owning.OwnUploads.{OwnUploads}
+use Rattle.store_lines.specs.Turns.{AreAborted, AreLinkedSteps, IsLeft, IsLinkedPut, IsLinkedRequest, IsLinkedStep}
 
 -- nothing was added to the account
 pub record Leaves (reach : Reach) (was is : SessionState → Type 0) : Type 0 where
@@ -53,22 +55,39 @@ pub record AnsweredOver (was is : SessionState → Type 0) (Is : SessionState �
   pub text_is : (entries : List Entry) → reported_text entries answer ≡ turn_text turn
   pub ending_is : reported_ending answer ≡ turn_ending turn
 
--- one line was served, or its bytes are truncated by the end of the input
-abbrev pub ServesOver : Reach → (SessionState → Type 0) → (SessionState → Type 0) → Bool → Option Request → List ℕ → List ℕ → Option (List ℕ) → (List ℕ → Type 0) → Type 0
-ServesOver reach was is true request whole following left Wrote = (rest : List ℕ) × ((left ≡ Some rest) × ReportedOver was is (λ before turn after. IsLinkedRequest reach before request whole following turn after rest) Wrote)
-ServesOver reach was is false request whole following left Wrote = IsShort request following × Wrote [] × LeavesOver reach was is request following × IsAtEnd left
+-- ---- the session's own uploads
+
+-- after a turn
+abbrev pub Notes : OwnUploads → OwnUploads → SessionTurn → Type 0
+Notes old new turn = new.numbers.items ≡ own_after old.numbers.items turn old.at_end
+
+-- after all turns
+abbrev pub Owns : Session → (SessionState → Type 0) → List ℕ → List SessionTurn → SessionState → Type 0
+Owns session is own turns last = is last × (own ≡ own_of session.at_end turns)
+
+-- they were aborted
+pub record AbortsOver (reach : Reach) (was is : SessionState → Type 0) (uploads : List ℕ) : Type 0 where
+  pub goes : (before : SessionState) → was before → (after : SessionState) × (AreAborted reach before uploads after × is after)
+
+-- ---- a line
+
+-- One line was served, and its turn has this property; or its bytes are truncated by the end of the input.
+abbrev pub ServesOver : Session → (SessionState → Type 0) → (SessionState → Type 0) → (SessionTurn → Type 0) → Bool → Option Request → List ℕ → List ℕ → Option (List ℕ) → (List ℕ → Type 0) → Type 0
+ServesOver session was is Has true request whole following left Wrote =
+    (rest : List ℕ) × ((left ≡ Some rest) × ReportedOver was is (λ before turn after. IsLinkedRequest session before request whole following turn after rest × Has turn) Wrote)
+ServesOver session was is Has false request whole following left Wrote = IsShort request following × Wrote [] × LeavesOver session.reach was is request following × IsAtEnd left
 
 -- the same for a request, whatever line spelled it
-pub record ServesRequestOver (reach : Reach) (was is : SessionState → Type 0) (is_whole : Bool) (request : Request) (following : List ℕ) (left : Option (List ℕ)) (Wrote : List ℕ → Type 0) : Type 0 where
-  pub serves : (whole : List ℕ) → ServesOver reach was is is_whole (Some request) whole following left Wrote
+pub record ServesRequestOver (session : Session) (was is : SessionState → Type 0) (Has : SessionTurn → Type 0) (is_whole : Bool) (request : Request) (following : List ℕ) (left : Option (List ℕ)) (Wrote : List ℕ → Type 0) : Type 0 where
+  pub serves : (whole : List ℕ) → ServesOver session was is Has is_whole (Some request) whole following left Wrote
 
 -- the same for a line, whatever its bytes are
-pub record ServesLineOver (reach : Reach) (was is : SessionState → Type 0) (is_whole : Bool) (line : Line) (following : List ℕ) (left : Option (List ℕ)) (Wrote : List ℕ → Type 0) : Type 0 where
-  pub serves : (whole : List ℕ) → IsOwnOrScript whole line → ServesOver reach was is is_whole (request_in whole) whole following left Wrote
+pub record ServesLineOver (session : Session) (was is : SessionState → Type 0) (Has : SessionTurn → Type 0) (is_whole : Bool) (line : Line) (following : List ℕ) (left : Option (List ℕ)) (Wrote : List ℕ → Type 0) : Type 0 where
+  pub serves : (whole : List ℕ) → IsOwnOrScript whole line → ServesOver session was is Has is_whole (request_in whole) whole following left Wrote
 
 -- the same for a line that was read like this
-pub record ServesReadOver (reach : Reach) (was is : SessionState → Type 0) (is_whole : Bool) (read : LineRead) (kept following : List ℕ) (left : Option (List ℕ)) (Wrote : List ℕ → Type 0) : Type 0 where
-  pub serves : (whole : List ℕ) → IsSessionLine whole read kept → ServesOver reach was is is_whole (request_in whole) whole following left Wrote
+pub record ServesReadOver (session : Session) (was is : SessionState → Type 0) (Has : SessionTurn → Type 0) (is_whole : Bool) (read : LineRead) (kept following : List ℕ) (left : Option (List ℕ)) (Wrote : List ℕ → Type 0) : Type 0 where
+  pub serves : (whole : List ℕ) → IsSessionLine whole read kept → ServesOver session was is Has is_whole (request_in whole) whole following left Wrote
 
 -- the bytes after a put were taken, and its result
 abbrev pub ReceivesOver : Reach → (SessionState → Type 0) → (SessionState → Type 0) → Option Answer → ℕ → ℕ → ℕ → List ℕ → Option (List ℕ) → Type 0
