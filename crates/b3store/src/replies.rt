@@ -5,7 +5,7 @@ use b3_core::Work;
 use edge::{Cause, Verdict};
 use std::cell::{Cell, RefCell};
 use std::io::{self, BufReader, BufWriter, ErrorKind, Read, Write};
-use store_lines::{Access, serve_over};
+use store_lines::{Access, UploadsAtEnd, serve_over};
 
 // The number of bytes that a session reads at a time.
 const AT_A_TIME: usize = 1 << 16;
@@ -102,12 +102,20 @@ impl<R: Read, W: Write + Drop> Read for AwaitedInput<'_, R, W> {
 pub(crate) fn serve_streams<A: Access, R: Read + Drop, W: Write + Drop>(
     rt: &HostRuntime,
     access: &mut A,
+    at_end: UploadsAtEnd,
     input: R,
     output: W,
 ) -> Result<Verdict, Cause> {
     let replies = Replies::new(rt, output)?;
     let (mut lines, mut answers) = replies.streams(rt, input)?;
     let mut work = Work::new(rt);
-    let ended = serve_over(rt.alloc(), access, &mut lines, &mut answers, &mut work);
+    let ended = serve_over(
+        rt.alloc(),
+        access,
+        at_end,
+        &mut lines,
+        &mut answers,
+        &mut work,
+    );
     replies.finish(ended)
 }

@@ -1,5 +1,6 @@
 //! Clients of one store. Each client writes its number to the door, a named pipe, and has two named pipes of its own: the server reads its
 //! lines from one and writes the answers to the other. Standard input and output are a session too; the program exits when that ends.
+//! A session aborts at its end the uploads that it began itself and that are open still, unless these are kept.
 
 ghost use Rattle.std.specs.Prelude.{◌≡◌};
 ghost use Rattle.store_ledger.specs.Shares.{all_parts};
@@ -22,7 +23,7 @@ use store_core::Limits;
 use store_history::Front;
 use store_lease::Lease;
 use store_ledger::{Ledgers, Share};
-use store_lines::Access;
+use store_lines::{Access, UploadsAtEnd};
 use store_shared::{Shared, UnnamedLedgers};
 
 // The maximum length in bytes of a line with a number: 20 digits and a newline.
@@ -66,6 +67,7 @@ impl Door {
 struct Server<L: Ledgers> {
     store: Shared<L>,
     path: String,
+    at_end: UploadsAtEnd,
     door: Mutex<Door>,
 }
 
@@ -85,10 +87,11 @@ fn open_output(rt: &HostRuntime, path: &str) -> io::Result<File> {
 fn serve_files<A: Access>(
     rt: &HostRuntime,
     access: &mut A,
+    at_end: UploadsAtEnd,
     input: File,
     output: File,
 ) -> io::Result<()> {
-    match serve_streams(rt, access, input, output) {
+    match serve_streams(rt, access, at_end, input, output) {
         Err(Cause::OutOfMemory) => Err(ErrorKind::OutOfMemory.into()),
         _ => Ok(()),
     }
@@ -103,6 +106,7 @@ fn pipe_path(alloc: Global, path: &str, number: u64, end: &str) -> Result<String
 fn serve_pipes<A: Access>(
     errors: StandardError<'_>,
     access: &mut A,
+    at_end: UploadsAtEnd,
     input_path: &str,
     output_path: &str,
 ) -> io::Result<()> {
@@ -115,7 +119,7 @@ fn serve_pipes<A: Access>(
         }
     };
     match open_output(rt, output_path) {
-        Ok(output) => serve_files(rt, access, input, output),
+        Ok(output) => serve_files(rt, access, at_end, input, output),
         Err(error) => {
             let _status = unopened(errors, output_path, &error);
             Ok(())
@@ -127,25 +131,33 @@ fn serve_pipes<A: Access>(
 fn serve_client<A: Access>(
     errors: StandardError<'_>,
     access: &mut A,
+    at_end: UploadsAtEnd,
     path: &str,
     number: u64,
 ) -> io::Result<()> {
     let alloc = errors.runtime().alloc();
     let input_path = pipe_path(alloc, path, number, "in")?;
     let output_path = pipe_path(alloc, path, number, "out")?;
-    serve_pipes(errors, access, input_path.as_str(), output_path.as_str())
+    serve_pipes(
+        errors,
+        access,
+        at_end,
+        input_path.as_str(),
+        output_path.as_str(),
+    )
 }
 
 // Serves the client whose number was read at the door. Failures are reported. Returns false if the door cannot be read.
 fn serve_next<A: Access>(
     errors: StandardError<'_>,
     access: &mut A,
+    at_end: UploadsAtEnd,
     path: &str,
     next: Result<Option<u64>, Cause>,
 ) -> bool {
     match next {
         Ok(Some(number)) => {
-            if serve_client(errors, access, path, number).is_err() {
+            if serve_client(errors, access, at_end, path, number).is_err() {
                 let _ = eprintln!(errors.cleared();
                     "b3store: {path}: out of memory for client {number}"
                 );
@@ -177,7 +189,7 @@ fn serve_clients<L: Ledgers, T: Wait>(
     let mut access = Lease::new(threads, &server.store, share, front);
     for _ in threads.forever() {
         let next = server.door.lock(threads).next_number();
-        if !serve_next(errors, &mut access, path, next) {
+        if !serve_next(errors, &mut access, server.at_end, path, next) {
             return;
         }
     }
@@ -216,6 +228,15 @@ fn start_all<L: Ledgers + Send + Sync + 'static, T: Threads + Wait + Copy + Send
     Ok(())
 }
 
+// What a session does at its end with the uploads that it began itself.
+fn at_end(options: &DoorOptions<'_>) -> UploadsAtEnd {
+    if options.keep_uploads {
+        UploadsAtEnd::Kept
+    } else {
+        UploadsAtEnd::Aborted
+    }
+}
+
 // Serves the clients of a door, and those of standard input and output, until the latter end.
 fn serve_all<L: Ledgers + Send + Sync + 'static, T: Threads + Wait + Copy + Send + 'static>(
     rt: HostRuntime,
@@ -234,6 +255,7 @@ fn serve_all<L: Ledgers + Send + Sync + 'static, T: Threads + Wait + Copy + Send
     let server = Server {
         store,
         path: String::from_str(alloc, options.path)?,
+        at_end: at_end(options),
         door: Mutex::new(door),
     };
     let Ok(server) = Arc::new(alloc, server) else {
@@ -242,7 +264,13 @@ fn serve_all<L: Ledgers + Send + Sync + 'static, T: Threads + Wait + Copy + Send
     start_all(rt, threads, &server, &mut share, options.sessions)?;
     let front = server.store.lock(&threads).front();
     let mut access = Lease::new(&threads, &server.store, share, front);
-    serve_streams(&rt, &mut access, rt.stdin(), io::writer(&rt))
+    serve_streams(
+        &rt,
+        &mut access,
+        server.at_end,
+        rt.stdin(),
+        io::writer(&rt),
+    )
 }
 
 // The same, for a store whose ledgers and history are named here.

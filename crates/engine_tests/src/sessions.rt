@@ -12,20 +12,28 @@ use store_engines::Verdict;
 use store_history::Front;
 use store_lease::Lease;
 use store_ledger::{Accepted, Ledgers, Share};
-use store_lines::{Access, serve_over};
+use store_lines::{Access, UploadsAtEnd, serve_over};
 use store_shared::{Locked, Shared, UnnamedLedgers};
 
 // Serves a session with these lines, and returns whether these are its answers.
 fn is_answered<A: Access, R: AllocGlobal + Runtime>(
     rt: &R,
     access: &mut A,
+    at_end: UploadsAtEnd,
     lines: &[u8],
     answers: &[u8],
 ) -> bool {
     let mut reader = lines;
     let mut writer = ByteWriter::new(rt.alloc(), u64::MAX);
     let mut work = Work::new(rt);
-    let ended = serve_over(rt.alloc(), access, &mut reader, &mut writer, &mut work);
+    let ended = serve_over(
+        rt.alloc(),
+        access,
+        at_end,
+        &mut reader,
+        &mut writer,
+        &mut work,
+    );
     ended == Ok(Verdict::Good) && writer.taken.as_slice() == answers
 }
 
@@ -48,10 +56,25 @@ const PAGES: &[u8] =
 const PAGES_ANSWERS: &[u8] =
     b"held 2 all\nused 3 reserved 5 limit 8\njournal 2\ntenant 0 8\nbegin 0 0 3\njournal 2\nseal 0 6437b3ac38465133ffb63b75273a8db548c558465d79db03fd359c6cd5bd9d85 new\nbegin 1 0 3\njournal 3\nbegin 2 0 2\nput 1 0 3\nput 2 0 2\njournal 0\njournal 0\nknown 6437b3ac38465133ffb63b75273a8db548c558465d79db03fd359c6cd5bd9d85 3\nok\njournal 2\nseal 1 6437b3ac38465133ffb63b75273a8db548c558465d79db03fd359c6cd5bd9d85 known\nabort 2\njournal 1\nabort 2\nrefused S6 free 5\nentries 10 tenants 1 objects 1 bytes 3 uploads 0 held 0 parts 0\nnew 2dc99999a6aaef3f20349d2ed4057a2b54419545dabb809e6381de1bad8337e2 2\njournal 1\nseal 3 2dc99999a6aaef3f20349d2ed4057a2b54419545dabb809e6381de1bad8337e2 new\n";
 
+// In the other session again, an upload that stays open.
+const LASTING: &[u8] = b"begin 0 1\n";
+
+// In a session that aborts its own uploads: a part of that one, and two uploads, of which it aborts one itself.
+const OWN: &[u8] = b"putb 4 0 1\nxbegin 0 1\nbegin 0 1\nabort 5\nuploads 0\n";
+
+const OWN_ANSWERS: &[u8] =
+    b"held 1 all\nupload 5\nupload 6\nok\nuploads 2\n4 1 1 1\n6 1 1 0\n";
+
+// What is open after it, its last entries, and the upload's seal.
+const LEFT: &[u8] = b"uploads 0\nentries 17\nseal 4\n";
+
+const LEFT_ANSWERS: &[u8] =
+    b"uploads 1\n4 1 1 1\njournal 2\nabort 5\nabort 6\nnew 3ae7d805f6789a6402acb70ad4096a85a56bf6804eaf25c0493ac697548d30b5 1\n";
+
 // A session's share, and what it has seen.
 type Client<L> = (Share<L>, Front<L>);
 
-// Two sessions over one store, the first of which ends after the other. Returns both, and whether all answers are as they should be.
+// Sessions of two leases over one store, in turn. Returns both, and whether all answers are as they should be.
 fn serve_in_turn<L: Ledgers, R: Wait + AllocGlobal + Runtime>(
     rt: &R,
     shared: &Shared<L>,
@@ -60,9 +83,13 @@ fn serve_in_turn<L: Ledgers, R: Wait + AllocGlobal + Runtime>(
 ) -> (Client<L>, Client<L>, bool) {
     let mut lease = Lease::new(rt, shared, client.0, client.1);
     let mut other_lease = Lease::new(rt, shared, other.0, other.1);
-    let are_answered = is_answered(rt, &mut lease, BEGUN, BEGUN_ANSWERS)
-        && is_answered(rt, &mut other_lease, OTHER, OTHER_ANSWERS)
-        && is_answered(rt, &mut lease, PAGES, PAGES_ANSWERS);
+    let (kept, aborted) = (UploadsAtEnd::Kept, UploadsAtEnd::Aborted);
+    let are_answered = is_answered(rt, &mut lease, kept, BEGUN, BEGUN_ANSWERS)
+        && is_answered(rt, &mut other_lease, kept, OTHER, OTHER_ANSWERS)
+        && is_answered(rt, &mut lease, kept, PAGES, PAGES_ANSWERS)
+        && is_answered(rt, &mut other_lease, kept, LASTING, b"upload 4\n")
+        && is_answered(rt, &mut lease, aborted, OWN, OWN_ANSWERS)
+        && is_answered(rt, &mut other_lease, kept, LEFT, LEFT_ANSWERS);
     (lease.into_parts(), other_lease.into_parts(), are_answered)
 }
 
@@ -72,8 +99,8 @@ fn are_whole<L: Ledgers>(locked: &mut Locked<L>, share: Share<L>, other: Share<L
     locked.join(&mut share, other);
     locked.settle(&mut share)
         == Ok(Accepted {
-            bytes: 10,
-            calls: 4,
+            bytes: 11,
+            calls: 5,
         })
 }
 

@@ -7,16 +7,17 @@ use Rattle.edge.specs.declared.outcome.Verdict.TheVariants as verdicts
 use Rattle.store_core.specs.Model.{ModelStore}
 use Rattle.store_handle.specs.declared.Kept.{Kept}
 use Rattle.store_handle.specs.declared.Kept.TheVariants as kept
-use Rattle.store_lines.specs.Access.{alone_reach, alone_stands}
-use Rattle.store_lines.specs.Turns.{ServedAllOver, ServedCutOver, ServedSomeOver}
+use Rattle.store_lines.specs.Access.{alone_stands}
+use Rattle.store_lines.specs.Owning.{alone}
+use Rattle.store_lines.specs.Turns.{Finishes, ServedAllOver, ServedCutOver, ServedSomeOver}
 use Rattle.store_c.specs.Keeping.{OnStore, bytes_in}
 
 -- The text is the answers to the lines, and the store is as they leave it; or to a prefix of them, and then it may lack its end; or there was
 -- no memory before the first.
 abbrev pub IsServed : ModelStore → List ℕ → Result Verdict Cause → List ℕ → ModelStore → Type 0
-IsServed old lines (Ok verdict) text new = ServedAllOver alone_reach (alone_stands old) (alone_stands new) lines (Some []) (Some text) verdict
-IsServed old lines (Err causes.CannotRead) text new = ServedSomeOver alone_reach (alone_stands old) (alone_stands new) lines (Some []) (Some text)
-IsServed old lines (Err causes.CannotWrite) text new = ServedCutOver alone_reach (alone_stands old) (alone_stands new) lines (Some []) (Some text)
+IsServed old lines (Ok verdict) text new = ServedAllOver alone (alone_stands old) (Finishes alone (alone_stands new)) lines (Some []) (Some text) verdict
+IsServed old lines (Err causes.CannotRead) text new = ServedSomeOver alone (alone_stands old) (Finishes alone (alone_stands new)) lines (Some []) (Some text)
+IsServed old lines (Err causes.CannotWrite) text new = ServedCutOver alone (alone_stands old) (Finishes alone (alone_stands new)) lines (Some []) (Some text)
 IsServed old lines (Err causes.OutOfMemory) text new = (text ≡ []) × (new ≡ old)
 
 -- the number that the call returns

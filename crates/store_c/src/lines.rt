@@ -14,7 +14,7 @@ use edge::{Cause, Verdict};
 use std::alloc::Global;
 use store_core::{Entry, Refusal, Store, entry_lines};
 use store_handle::{Handle, Kept};
-use store_lines::serve_over;
+use store_lines::{UploadsAtEnd, serve_over};
 
 /// The lines end within the bytes after a line: a `putb` was not run, or a `file` was aborted.
 const TRUNCATED: u32 = 67;
@@ -73,7 +73,14 @@ fn serve(
     ensures { IsServed store.old lines.now result text.new.items store.new }
 {
     let mut reader = lines;
-    serve_over(alloc, store, &mut reader, text, work)
+    serve_over(
+        alloc,
+        store,
+        UploadsAtEnd::Kept,
+        &mut reader,
+        text,
+        work,
+    )
 }
 
 fn number_of(served: Result<Verdict, Cause>) -> u32

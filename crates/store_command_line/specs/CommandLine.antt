@@ -76,9 +76,9 @@ sum_line = with_work (with_rule (with_mode (with_list (with_names (new_app (code
 abbrev pub run_line : App
 run_line = new_app (codes "run")
 
--- `[--at PATH] [--sessions N]`
+-- `[--at PATH] [--sessions N] [--keep-uploads]`
 abbrev pub with_door : App → App
-with_door a = with_rule (with_rule a (value_rule (codes "at"))) (number_rule (codes "sessions") max_sessions)
+with_door a = with_rule (with_rule (with_rule a (value_rule (codes "at"))) (number_rule (codes "sessions") max_sessions)) (flag_rule (codes "keep-uploads"))
 
 -- `serve` with these
 abbrev pub serve_line : App

@@ -85,10 +85,11 @@ pub record SaysUpload (asked : AskedUpload) (rows : List Row) : Type 0 where
   pub journal : SaysFlag (one_of (codes "journal") rows) asked.journal
   pub no_progress : SaysFlag (one_of (codes "no-progress") rows) asked.no_progress
 
--- how clients connect, from the texts of `--at` and of `--sessions`, which is given only with it
-abbrev pub SaysDoor : Option DoorOptions → Option Text → Option Text → Type 0
-SaysDoor None at sessions = (at ≡ None) × (sessions ≡ None)
-SaysDoor (Some door) at sessions = (at ≡ Some door.path.now) × SpellsOr default_sessions sessions door.sessions
+-- how clients connect, from the texts of `--at`, of `--sessions`, which is given only with it, and of `--keep-uploads`, which says nothing
+-- without it
+abbrev pub SaysDoor : Option DoorOptions → Option Text → Option Text → Option Text → Type 0
+SaysDoor None at sessions keep = (at ≡ None) × (sessions ≡ None)
+SaysDoor (Some door) at sessions keep = (at ≡ Some door.path.now) × SpellsOr default_sessions sessions door.sessions × SaysFlag keep door.keep_uploads
 
 -- which lines of a report are written, from `--quiet` and `--status`; `--status` takes precedence
 abbrev pub shown_by : Bool → Bool → Shown
@@ -114,7 +115,7 @@ pub record SaysCheck (o : CheckOptions) (rows : List Row) : Type 0 where
 abbrev pub Says : Options → Option (Text × List Row) → Type 0
 Says (Sum o) found = (rows : List Row) × (found ≡ Some (codes "sum", rows)) × SaysSum o rows
 Says Run found = (rows : List Row) × (found ≡ Some (codes "run", rows))
-Says (Serve door) found = (rows : List Row) × (found ≡ Some (codes "serve", rows)) × SaysDoor door (first_of (codes "at") rows) (first_of (codes "sessions") rows)
+Says (Serve door) found = (rows : List Row) × (found ≡ Some (codes "serve", rows)) × SaysDoor door (first_of (codes "at") rows) (first_of (codes "sessions") rows) (one_of (codes "keep-uploads") rows)
 Says (Upload o) found = (rows : List Row) × (found ≡ Some (codes "upload", rows)) × SaysUpload o rows
 Says (Check o) found = (rows : List Row) × (found ≡ Some (codes "check", rows)) × SaysCheck o rows
 Says Audit found = (rows : List Row) × (found ≡ Some (codes "audit", rows))

@@ -236,6 +236,15 @@ fn sessions_argument<'a>(alloc: Global) -> Arg<'a>
     value_argument(alloc, "sessions", "N", help).value_parser(value_parser!(u32).range(1..65))
 }
 
+// The flag that keeps open uploads.
+fn keep_uploads_argument<'a>(alloc: Global) -> Arg<'a>
+    ensures rule { rule_of result ≡ flag_rule (codes "keep-uploads") }
+    ensures local { result.global ≡ false }
+{
+    let help = "With --at: keep the open uploads of a client that ends, instead of aborting them";
+    flag_argument(alloc, "keep-uploads", help)
+}
+
 // The options for clients of a shared store.
 fn with_door<'a>(alloc: Global, command: Command<'a>) -> Result<Command<'a>, AllocError>
     requires { (fields_of command).has_globals ≡ false }
@@ -245,7 +254,8 @@ fn with_door<'a>(alloc: Global, command: Command<'a>) -> Result<Command<'a>, All
     let at = "Serve the same store to clients that write their number to this named pipe";
     command
         .arg(value_argument(alloc, "at", "PATH", at))?
-        .arg(sessions_argument(alloc))
+        .arg(sessions_argument(alloc))?
+        .arg(keep_uploads_argument(alloc))
 }
 
 // `serve` without its options.

@@ -103,13 +103,15 @@ pub struct CheckOptions<'a> {
     pub no_progress: bool,
 }
 
-/// How clients of a shared store connect, and how many are served at a time.
+/// How clients of a shared store connect, how many are served at a time, and what becomes of their open uploads.
 #[derive(Clone, Copy, Debug)]
 pub struct DoorOptions<'a> {
     /// The path of the named pipe to which a client writes its number.
     pub path: &'a str,
     /// The maximum number of clients served at a time.
     pub sessions: u32,
+    /// Whether an upload that a client began stays open when the client's session ends; otherwise it is aborted.
+    pub keep_uploads: bool,
 }
 
 /// A subcommand with its options.

@@ -385,10 +385,10 @@ fn upload_options(alloc: Global, found: &ArgMatches<'_>) -> Result<AskedUpload, 
 
 // How clients connect, if a named pipe is given.
 fn door<'a>(alloc: Global, found: &ArgMatches<'a>) -> Result<Option<DoorOptions<'a>>, Fault>
-    ensures says { IfOk result (λ d. let rows = rows_of (found_of found.now) in SaysDoor d (first_of (codes "at") rows) (first_of (codes "sessions") rows)) }
+    ensures says { IfOk result (λ d. let rows = rows_of (found_of found.now) in SaysDoor d (first_of (codes "at") rows) (first_of (codes "sessions") rows) (one_of (codes "keep-uploads") rows)) }
     ensures range { IfOk result IsDoorInRange }
     ensures only { let rows = rows_of (found_of found.now) in (d : Option SaidDoor)
-        → SaysDoor d (first_of (codes "at") rows) (first_of (codes "sessions") rows) → IsDoorInRange d → IsNotUsage result }
+        → SaysDoor d (first_of (codes "at") rows) (first_of (codes "sessions") rows) (one_of (codes "keep-uploads") rows) → IsDoorInRange d → IsNotUsage result }
     ensures no_version { IfErr result IsNoVersion }
 {
     let Some(path) = text_of(found, "at") else {
@@ -402,7 +402,11 @@ fn door<'a>(alloc: Global, found: &ArgMatches<'a>) -> Result<Option<DoorOptions<
         default: DEFAULT_SESSIONS,
     };
     let sessions = number_or(alloc, found, "serve", "sessions", sessions)?;
-    Ok(Some(DoorOptions { path, sessions }))
+    Ok(Some(DoorOptions {
+        path,
+        sessions,
+        keep_uploads: flag(found, "keep-uploads"),
+    }))
 }
 
 // The given subcommand and its arguments.

@@ -49,14 +49,8 @@ pub fn serve<R: BufRead, W: Write>(
     ensures memory { result ≡ Err Cause.OutOfMemory → (reader.new ≡ reader.old) × (writer.new ≡ writer.old) }
 {
     let mut store = Store::new(alloc, Limits::full());
-    serve_over(
-        alloc,
-        &mut store,
-        UploadsAtEnd::Kept,
-        reader,
-        writer,
-        work,
-    )
+    let at_end = UploadsAtEnd::Kept;
+    serve_over(alloc, &mut store, at_end, reader, writer, work)
 }
 
 /// Runs a session over any access to a store: reads it line by line, with the bytes after a line, and writes the answer when these were
