@@ -22,7 +22,7 @@ import tempfile
 sys.dont_write_bytecode = True
 TESTS = os.path.dirname(os.path.dirname(os.path.abspath(__file__)))
 sys.path[1:1] = [os.path.join(TESTS, "common"), os.path.join(TESTS, "second_reading")]
-from commands import FILES, cases
+from commands import DOOR, FILES, cases
 from preloaded import CannotPreload, Preloaded
 from python_needed import end_where_older
 from test_programs import CRATES, NoTests, tests
@@ -115,6 +115,7 @@ def try_all(options, folder, tally):
     for name, content in FILES.items():
         with open(os.path.join(folder, name), "wb") as file:
             file.write(content)
+    os.mkfifo(os.path.join(folder, DOOR))
     for case in cases(os.path.abspath(options.program)):
         try_case(refusing, case, tally)
     if options.program_alone:

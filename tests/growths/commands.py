@@ -15,6 +15,8 @@ LONG = pattern(0, 9 << 20)
 LONG_ADDRESS = "8516f8a0ae9a7a21cdd69df13aaa9b2a22a499848fb3185cea4cae496ce4d91a"
 """What `b3sum` says of it: an input of several blocks, which the second reading takes minutes to hash."""
 KEY = bytes(range(32))
+DOOR = "door"
+"""A named pipe, at which no client comes."""
 FILES = {"object": OBJECT, "abc": b"abc", "key": KEY}
 FROB = b"error: unexpected argument '--frob' found\n"
 HELP = b"Hash and check files, and serve a store that keeps each content once, in memory, until its process ends\n\nUsage: "
@@ -169,7 +171,8 @@ def cases(program):
     yield Case([program, "audit"], journal, read(ANSWERS["audit"](journal)), wrote_nothing)
     yield Case([program, "migrate"], journal, read(ANSWERS["migrate"](journal)), wrote_nothing)
     yield Case([program, "run"], SCRIPT.encode(), script, is_beginning_by_the_model, refusal=b"refused S14\n")
-    yield Case([program, "serve"], SESSION, read(session_of(SESSION)), wrote_nothing, is_by_the_model, b"refused S14\n")
+    for words in ["serve"], ["serve", "--at", DOOR, "--sessions", "1"]:
+        yield Case([program, *words], SESSION, read(session_of(SESSION)), wrote_nothing, is_by_the_model, b"refused S14\n")
     for words, parts in (["--workers", "1"], 1), (["--workers", "3", "--part-chunks", "1"], 3):
         accounts = good(f"{ADDRESS}  -\naccepted {len(OBJECT)} {parts}\n")
         yield Case([program, "upload", *words], OBJECT, accounts, reported_a_refusal, refusal=b"refused U")

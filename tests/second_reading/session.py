@@ -16,6 +16,8 @@ def pattern_of(line):
     return re.compile(" ".join(ADDRESS if field == "ADDRESS" else NUMBER if field.isupper() else field for field in line.split(" ")))
 
 
+ENDINGS = {("seal", b"new"), ("seal", b"known"), ("sealas", b"new"), ("sealas", b"known"), ("abort", b"ok")}
+"""The words of the lines that end an upload, each with how its answer begins then."""
 PATTERNS = {line: pattern_of(line) for line in LINES}
 
 
@@ -110,6 +112,27 @@ def session_of(data):
             return output, 1
         output += answer_of(store, line, taken)
     return output, 0
+
+
+class OwnUploads:
+    """The uploads that a session began and hasn't ended itself, in the order of their begins."""
+
+    def __init__(self):
+        self.numbers = []
+
+    def note(self, line, answer):
+        """Notes what a line with this answer began or ended."""
+        words, given = line.split(" "), answer.split()
+        if words[0] in ("begin", "open") and given[0] == b"upload":
+            self.numbers.append(int(given[1]))
+        elif (words[0], given[0]) in ENDINGS and int(words[1]) in self.numbers:
+            self.numbers.remove(int(words[1]))
+
+    def abort(self, store):
+        """Aborts them, one after the other. One that another session has ended is gone."""
+        for number in self.numbers:
+            with contextlib.suppress(Refused):
+                store.abort(number)
 
 
 def answers_within(data, count):

@@ -16,7 +16,7 @@ sys.dont_write_bytecode = True
 TESTS = os.path.dirname(os.path.dirname(os.path.abspath(__file__)))
 sys.path[1:1] = [os.path.join(TESTS, name) for name in ("common", "second_reading")]
 from clients import join_clients, read_log, start_clients
-from deaths import asked, deaths
+from deaths import asked, deaths, left_open
 from door import NoAnswer, Server, Session
 from following import Following
 from history import faults_of
@@ -43,13 +43,15 @@ def storm(program, clients, commands, seed, sessions=None):
     with Server(program, sessions or clients) as server:
         first = [asked(server, "tenant 30000") for _ in range(TENANTS)]
         started = start_clients(server, seed, clients, commands)
-        found = join_clients(started, 60 + commands * SECONDS_PER_COMMAND)
-        histories = [first] + [read_log(path, number) for number, (_, path) in enumerate(started, 1)]
+        found = join_clients(started, 60 + commands * SECONDS_PER_COMMAND) + left_open(server)
+        ends = []
+        histories = [first] + [read_log(path, number, ends=ends) for number, (_, path) in enumerate(started, 1)]
         if found:
             return found + [server.reported()[-300:]]
         last = [asked(server, line) for line in ("stat", "tenants", "list 0", "uploads 1")]
         journal = server.ask("journal").decode().splitlines()[1:]
         histories[0] += last
+        histories += [ends]
         found = faults_of(journal, histories)
         status, reported = server.end(), server.reported()
         found += [f"the server ended with {status} and {reported[-300:]!r}"] if (status, reported) != (0, "") else []

@@ -9,6 +9,7 @@ import time
 
 from door import NoAnswer, Session
 from history import Op, shortened
+from session import OwnUploads
 
 LENGTHS = (5, 1000, 1024, 2048, 2049, 3072, 3072)
 FILLS = 3
@@ -153,28 +154,49 @@ class Log:
     def answered(self, answer):
         self.file.write(pickle.dumps((time.monotonic_ns(), shortened(answer))))
 
+    def ended(self):
+        """Notes that the session ends."""
+        self.file.write(pickle.dumps((time.monotonic_ns(), None, None, None)))
+
     def cut(self):
         """Notes that what was sent is answered no more."""
         self.file.write(pickle.dumps((time.monotonic_ns(),)))
 
 
-def read_log(path, client, kind=Op):
-    """The commands and answers of a client's log, which may be truncated."""
-    found, waiting = [], collections.deque()
+def records_of(path):
+    """The records of a log, which may be truncated."""
     with open(path, "rb") as file:
         while True:
             try:
-                record = pickle.load(file)
+                yield pickle.load(file)
             except (EOFError, pickle.UnpicklingError):
-                return found
-            if len(record) == 3:
-                found.append(kind(client, *record))
-                waiting.append(found[-1])
-            elif len(record) == 1:
-                waiting.clear()
-            else:
-                op = waiting.popleft()
-                op.ended, op.answer = record
+                return
+
+
+def read_log(path, client, kind=Op, ends=None):
+    """The commands and answers of a client's log. The aborts at the end of each session are added to `ends`: nobody is answered them."""
+    found, waiting, own, now = [], collections.deque(), OwnUploads(), 0
+    ends = [] if ends is None else ends
+    for now, *record in records_of(path):
+        if len(record) == 2:
+            found.append(kind(client, now, *record))
+            waiting.append(found[-1])
+        elif not record:
+            waiting.clear()
+        elif len(record) == 1:
+            op = waiting.popleft()
+            op.ended, op.answer = now, record[0]
+            own.note(op.line, op.answer)
+        else:
+            ends += [end_of(number, now) for number in own.numbers]
+            own = OwnUploads()
+    ends += [end_of(number, now) for number in own.numbers]
+    return found
+
+
+def end_of(number, now):
+    """The abort of an upload whose session ended at this time."""
+    return Op(0, now, f"abort {number}", (0, 0))
 
 
 def talk(session, chooser, log, count, ahead=1):
@@ -198,6 +220,7 @@ def run_client(at, number, seed, clients, count, path):
     for part in range(sessions):
         with Session(at, 1000 * number + part) as session:
             talk(session, chooser, log, count // sessions, 4 if number % 5 == 4 else 1)
+            log.ended()
 
 
 def guarded(life, *words):

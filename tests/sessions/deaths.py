@@ -5,8 +5,8 @@ import random
 import subprocess
 import time
 
-from clients import FILLS, Chooser, Log, join_clients, read_log, start, talk
-from door import Server, Session
+from clients import FILLS, Chooser, Log, end_of, join_clients, read_log, start, talk
+from door import LOOKS, SECONDS, Server, Session
 from history import Op, faults_of
 from journal import audit_answer
 
@@ -37,6 +37,7 @@ def work(at, number, seed, end, path):
             while time.monotonic() < end and chance.random() > 0.01:
                 talk(session, chooser, log, 1)
                 time.sleep(PAUSE)
+            log.ended()
         part += 1
 
 
@@ -113,8 +114,8 @@ class Victims:
             self.kill_those_due(time.monotonic())
         self.kill_those_due(float("inf"))
 
-    def histories(self, first):
-        return [read_log(path, first + at) for at, path in enumerate(self.paths) if os.path.exists(path)]
+    def histories(self, first, ends):
+        return [read_log(path, first + at, ends=ends) for at, path in enumerate(self.paths) if os.path.exists(path)]
 
 
 def all_sessions_answer(server):
@@ -124,6 +125,23 @@ def all_sessions_answer(server):
     for session in sessions:
         session.close()
     return found
+
+
+def left_open(server):
+    """What is wrong where uploads of clients that have ended are open still after a while."""
+    end = time.monotonic() + SECONDS
+    while any(answer != b"uploads 0\n" for answer in server.uploads()):
+        if time.monotonic() > end:
+            return [f"uploads of clients that have ended are open: {server.uploads()}"]
+        time.sleep(LOOKS)
+    return []
+
+
+def untold(journal, histories):
+    """The aborts of uploads whose clients died before they were answered the number."""
+    told = {int(op.answer.split()[1]) for history in histories for op in history if (op.answer or b"").startswith(b"upload ")}
+    begun = [int(entry.split(" ")[1]) for entry in journal if entry.startswith(("begin ", "open "))]
+    return [end_of(number, 0) for number in begun if number not in told]
 
 
 def audit_differs(program, journal, totals):
@@ -144,14 +162,16 @@ def deaths(program, minutes, seed):
             workers.append((start(work, server.at, number, seed * 1000 + number, end, path), path))
         victims = Victims(server, random.Random(seed))
         victims.run(end)
-        found = join_clients(workers, 60) + all_sessions_answer(server)
+        found = join_clients(workers, 60) + all_sessions_answer(server) + left_open(server)
         if found:
             return found + [server.reported()[-300:]]
-        histories = [first] + [read_log(path, number) for number, (_, path) in enumerate(workers, 1)]
-        histories += victims.histories(len(histories))
+        ends = []
+        histories = [first] + [read_log(path, number, ends=ends) for number, (_, path) in enumerate(workers, 1)]
+        histories += victims.histories(len(histories), ends)
         stat = asked(server, "stat")
         histories[0] += [stat] + [asked(server, f"{word} {tenant}") for word in ("list", "uploads") for tenant in range(TENANTS)]
         journal = server.ask("journal").decode().splitlines()[1:]
+        histories += [ends + untold(journal, histories)]
         found = faults_of(journal, histories) + audit_differs(program, journal, stat.answer)
         status = server.end()
     print(f"{victims.count} clients were killed beside {sum(map(len, histories[:4]))} commands; {len(journal)} entries", flush=True)

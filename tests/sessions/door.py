@@ -111,15 +111,16 @@ class Session:
 
 
 class Server:
-    """A server in a process of its own, with its door in a folder of its own. Standard input and output are a session too."""
+    """A server in a process of its own, with its door in a folder of its own. Standard input and output are a session too. It may keep the open uploads of
+    sessions that end."""
 
-    def __init__(self, program, sessions, **variables):
+    def __init__(self, program, sessions, keeps=False, **variables):
         self.folder = tempfile.mkdtemp()
         self.at = os.path.join(self.folder, "door")
         self.numbers = 0
         os.mkfifo(self.at, 0o600)
         self.errors = open(os.path.join(self.folder, "errors"), "ab")
-        words = [*program, "serve", "--at", self.at, "--sessions", str(sessions)]
+        words = [*program, "serve", "--at", self.at, "--sessions", str(sessions), *["--keep-uploads"] * keeps]
         self.process = subprocess.Popen(
             words, stdin=subprocess.PIPE, stdout=subprocess.PIPE, stderr=self.errors, env={**os.environ, **variables}, **passed(variables)
         )
@@ -158,6 +159,11 @@ class Server:
         words = first.split()
         count = int(words[1]) if words and words[0] in ROWS else 0
         return first + b"".join(self.process.stdout.readline() for _ in range(count))
+
+    def uploads(self):
+        """The open uploads of each tenant, as that session is answered."""
+        count = int(self.ask("tenants").split()[1])
+        return [self.ask(f"uploads {tenant}") for tenant in range(count)]
 
     def given(self, count, wait):
         """The next bytes of that session's answers, which `ask` must not read from before."""

@@ -2,7 +2,8 @@
 
 A history has each client's commands in order, with when they were sent and answered. Accepted commands are in the one journal, once each, in each
 client's order, and each entry is some client's. Every answer is the model's at one moment, a number of entries, between the sending of its command and the
-answer; and moments follow each other as the answers did. The model is tests/second_reading.
+answer; and moments follow each other as the answers did. The aborts by which the server ends the uploads of a session after it are commands that nobody is
+answered. The model is tests/second_reading.
 """
 import bisect
 import hashlib

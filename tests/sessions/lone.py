@@ -5,6 +5,7 @@ import os
 import threading
 import time
 
+from deaths import audit_differs
 from door import NoAnswer, Server, knock
 from judging import differences
 
@@ -140,7 +141,7 @@ HALVES = (b"abort 1", b"limit 0 4", b"begin 0 10", b"seal 1", b"putb 1 0 3", b"p
 
 
 def halves_of_commands(program):
-    """A client that ends within a line or a part has not sent it; what it had begun stays open."""
+    """A client that ends within a line or a part has not sent it, and ends nothing of another's."""
     with Server(program, 2) as server:
         found = differences((server.ask("tenant 5000"), b"tenant 0\n"), (server.ask("begin 0 3"), b"upload 0\n"), (server.ask("begin 0 3"), b"upload 1\n"))
         for half in HALVES:
@@ -180,6 +181,91 @@ def files_that_are_cut_off(program):
             filed, wanted = session.ask("file 0 3", b"abc", SOON), file_one(session)[1]
             found += differences((filed.replace(b"new", b"known"), wanted), (none_is_open(session), True))
         return found + differences((server.end(), 0))
+
+
+def begun(session):
+    """The number of an upload of three bytes that a session begins."""
+    return int(session.ask("begin 0 3", wait=SOON).split()[1])
+
+
+def put_to(session, number):
+    return session.ask(f"putb {number} 0 3", b"abc", SOON)
+
+
+LAST_WORDS = {
+    "after a begin": lambda session, number: None,
+    "after an open": lambda session, number: session.ask("open 0 3", wait=SOON),
+    "after a part": put_to,
+    "within a line": lambda session, number: session.send(b"seal %d" % number),
+    "within a part": lambda session, number: session.send(b"putb %d 0 3\nab" % number),
+    "within a file": lambda session, number: session.send(b"file 0 4000\nabc"),
+    "without reading": lambda session, number: session.send(b"journal\n" * 8000),
+}
+"""What a client does last that has begun an upload."""
+
+
+def uploads_left(server, wanted):
+    """What is wrong where these are not the open uploads soon, or they reserve something else."""
+    end = time.monotonic() + SOON
+    while server.uploads() != [wanted] and time.monotonic() < end:
+        time.sleep(0.01)
+    reserved = 3 * (wanted.count(b"\n") - 1)
+    return differences((server.uploads(), [wanted]), (server.ask("usage 0"), b"used 0 reserved %d limit 5000\n" % reserved))
+
+
+def own_uploads_of_clients_that_end(program):
+    """They are aborted, and only they: one that another client began stays, also if the client that ends has put to it."""
+    with Server(program, 3) as server:
+        found = differences((server.ask("tenant 5000"), b"tenant 0\n"), (server.ask("begin 0 3"), b"upload 0\n"))
+        for name, last_words in LAST_WORDS.items():
+            with server.session() as session:
+                number = begun(session)
+                last_words(session, number)
+            found += [f"{name}: {fault}" for fault in uploads_left(server, b"uploads 1\n0 3 3 0\n")]
+        with server.session() as session:
+            found += differences((put_to(session, 0), b"held 3 all\n"), (session.ask("uploads 0", wait=SOON), b"uploads 1\n0 3 3 3\n"))
+        found += uploads_left(server, b"uploads 1\n0 3 3 3\n")
+        aborted = [entry for entry in server.ask("journal").splitlines() if entry.startswith(b"abort ")]
+        found += differences((b"abort 0" in aborted, False), (len(aborted), len(set(aborted))))
+        return found + audit_of(program, server) + differences((server.end(), 0))
+
+
+def audit_of(program, server):
+    """What is wrong with a replay of a server's journal."""
+    return audit_differs(program, server.ask("journal").decode().splitlines()[1:], server.ask("stat"))
+
+
+def own_uploads_that_others_end(program):
+    """What another client sealed stays filed, and what it aborted is aborted once. Later uploads of others stay."""
+    with Server(program, 3) as server, sessions_of(server, 1) as (other,):
+        found = differences((server.ask("tenant 5000"), b"tenant 0\n"))
+        with server.session() as session:
+            sealed, aborted = begun(session), begun(session)
+            put_to(session, sealed)
+            found += differences((other.ask(f"abort {aborted}", wait=SOON), b"ok\n"))
+            address = other.ask(f"seal {sealed}", wait=SOON).split()[1].decode()
+            later = begun(other)
+        with server.session() as session:
+            found += differences((answered(session, f"has 0 {address}"), b"has 3\n"))
+        time.sleep(SHORTLY)
+        found += differences((server.uploads(), [b"uploads 1\n%d 3 3 0\n" % later]), (server.ask("journal").count(b"abort"), 1))
+        return found + audit_of(program, server) + differences((server.end(), 0))
+
+
+def own_uploads_that_are_kept(program):
+    """With --keep-uploads they are open, and another client goes on with them."""
+    with Server(program, 3, keeps=True) as server, sessions_of(server, 1) as (other,):
+        found, numbers = differences((server.ask("tenant 5000"), b"tenant 0\n")), []
+        for last_words in LAST_WORDS.values():
+            with server.session() as session:
+                numbers.append(begun(session))
+                last_words(session, numbers[-1])
+        with server.session() as session:
+            found += differences((answered(session, "stat") is None, False))
+        for number in numbers:
+            found += differences((put_to(other, number).startswith((b"held 3 all", b"refused S9")), True))
+            found += differences((other.ask(f"seal {number}", wait=SOON).split()[0] in (b"new", b"known"), True))
+        return found + audit_of(program, server) + differences((server.end(), 0))
 
 
 def answers_before_it_waits(program):
@@ -244,6 +330,9 @@ LONE_CASES = {
     "pipes that are not there": pipes_that_are_not_there,
     "halves of commands": halves_of_commands,
     "files that are cut off": files_that_are_cut_off,
+    "own uploads of clients that end": own_uploads_of_clients_that_end,
+    "own uploads that others end": own_uploads_that_others_end,
+    "own uploads that are kept": own_uploads_that_are_kept,
     "answers before it waits": answers_before_it_waits,
     "the end of standard input": the_end_of_standard_input,
     "clients that say nothing": many_that_say_nothing,

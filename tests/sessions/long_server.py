@@ -341,7 +341,7 @@ def long_server(program, minutes, pause, slack):
     """What is wrong with a server whose clients work for some minutes, each with a pause of up to `pause` seconds before it sends commands. Of its memory,
     `slack` bytes may be neither objects nor entries."""
     shared_addresses()
-    with Server(program, CLIENTS) as server:
+    with Server(program, CLIENTS, keeps=True) as server:
         first = [asked(server, f"tenant {LIMIT}") for _ in range(CLIENTS)]
         before, end = resident(server.process.pid), time.monotonic() + 60 * minutes
         paths = [os.path.join(server.folder, f"log.{number}") for number in range(1, CLIENTS + 1)]

@@ -1,5 +1,5 @@
 #!/usr/bin/env python3
-"""plain_server.py [--wrong KIND] serve [--at PATH --sessions N]: a slow `b3store serve --at` by the second reading, for tests/sessions; `audit`, too.
+"""plain_server.py [--wrong KIND] serve [--at PATH --sessions N [--keep-uploads]]: a slow `b3store serve --at` by the second reading, for tests/sessions; `audit`, too.
 
 With --wrong it breaks a promise, once in a while, so that tests/sessions and tests/soak have something to find:
 
@@ -17,7 +17,9 @@ With --wrong it breaks a promise, once in a while, so that tests/sessions and te
   lags        answers are kept back until there are many
   waits       no client is answered while one doesn't read its answers
   trips       a bad line at the door ends the server
-  clears      the uploads that a client began are removed when its session ends
+  clears      the uploads that a client began are removed when its session ends, and not in the journal
+  stays       the uploads that a client began stay open when its session ends
+  strays      the end of a session aborts the upload that was begun last, whoever began it
   keeps       memory is never freed, which tests/soak alone finds
 """
 import contextlib
@@ -32,10 +34,10 @@ TESTS = os.path.dirname(os.path.dirname(os.path.abspath(__file__)))
 sys.path[1:1] = [os.path.join(TESTS, "second_reading")]
 from journal import audit_answer
 from questions import QUESTIONS
-from session import answer_of, bytes_after
+from session import OwnUploads, answer_of, bytes_after
 from store import Store
 
-WRONG = ("older", "loses", "drops", "doubles", "alters", "mixes", "swaps", "shares", "reorders", "forgets", "half", "lags", "waits", "trips", "clears")
+WRONG = ("older", "loses", "drops", "doubles", "alters", "mixes", "swaps", "shares", "reorders", "forgets", "half", "lags", "waits", "trips", "clears", "stays", "strays")
 ASKING = {"usage", "list", "stat", "fetch", "fetchb", *(line.split(" ")[0] for line in QUESTIONS)}
 """The words of the lines that change nothing."""
 AGE = 12
@@ -51,8 +53,8 @@ EVERY = 15
 class Answers:
     """The store and its answers, of which some may be wrong."""
 
-    def __init__(self, wrong):
-        self.wrong, self.store, self.lock = wrong, Store(), threading.Lock()
+    def __init__(self, wrong, keeps):
+        self.wrong, self.keeps, self.store, self.lock = wrong, keeps, Store(), threading.Lock()
         self.count, self.older, self.begun, self.asked, self.kept, self.uploads = 0, [], {}, (None, b""), [], {}
 
     def answer(self, session, line, taken):
@@ -69,8 +71,7 @@ class Answers:
             OF_ENTRIES[self.wrong](self.store.journal)
         if self.wrong == "alters" and re.match(rb"bytes [1-9]", given) and self.is_due():
             given = given[:-1] + bytes([given[-1] ^ 1])
-        if given.startswith(b"upload "):
-            self.uploads.setdefault(session, []).append(int(given.split()[1]))
+        self.uploads.setdefault(session, OwnUploads()).note(line, given)
         if word in ASKING:
             self.asked = (session, given)
         return given
@@ -108,9 +109,15 @@ class Answers:
         self.kept.append(KEPT * taken)
 
     def end(self, session):
-        """What the end of a session changes."""
-        for number in self.uploads.pop(session, ()) if self.wrong == "clears" else ():
-            self.store.uploads.pop(number, None)
+        """Aborts a session's own uploads at its end."""
+        own = self.uploads.pop(session, OwnUploads())
+        if self.wrong == "strays" and self.store.uploads:
+            self.store.abort(max(self.store.uploads))
+        if self.wrong == "clears":
+            for number in own.numbers:
+                self.store.uploads.pop(number, None)
+        elif not self.keeps and self.wrong != "stays":
+            own.abort(self.store)
 
     def shared(self, session, word, line, taken):
         if word not in ("begin", "open"):
@@ -219,9 +226,10 @@ def main():
     if words == ["audit"]:
         sys.stdout.buffer.write(audit_answer(sys.stdin.buffer.read())[0])
         return
-    answers, lock = Answers("half" if words == ["serve"] else wrong), threading.Lock()
+    keeps = words == ["serve"] or words[5:] == ["--keep-uploads"]
+    answers, lock = Answers("half" if words == ["serve"] else wrong, keeps), threading.Lock()
     if words != ["serve"]:
-        _, _, at, _, sessions = words
+        _, _, at, _, sessions = words[:5]
         door = os.fdopen(os.open(at, os.O_RDWR), "rb")
         for _ in range(int(sessions)):
             threading.Thread(target=serve_door, args=(answers, at, door, lock), daemon=True).start()
