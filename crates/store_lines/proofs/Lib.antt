@@ -16,6 +16,7 @@ mod FileParts
 mod Files
 mod Reports
 mod Owned
+mod Begun
 mod Serves
 mod Under
 mod Alone

@@ -1,5 +1,5 @@
 -- A session's own uploads: those that it began itself, and has not sealed or aborted. A session over a shared store aborts them at its end.
-use Rattle.std.specs.Prelude.{◌≡◌, ◌==◌, ℕ, Bool, true, false, List, [], ◌∷◌, ◌++◌, Some, Result, Ok, Err}
+use Rattle.std.specs.Prelude.{◌≡◌, ◌==◌, ◌⊎◌, ℕ, Bool, true, false, List, [], ◌∷◌, ◌++◌, Some, Result, Ok, Err}
 use Rattle.std.specs.List.{fold, position, remove}
 use Rattle.std.specs.Option.{option_map_or}
 use Rattle.store_books.specs.declared.refusal.Refusal.{Refusal}
@@ -64,3 +64,23 @@ own_after own turn at_end = own
 -- what it has to abort after these turns
 abbrev pub own_of : UploadsAtEnd → List SessionTurn → List ℕ
 own_of at_end turns = fold (λ own turn. own_after own turn at_end) [] turns
+
+-- ---- a law
+
+-- the number is one of these
+abbrev pub IsAmong : ℕ → List ℕ → Type 0
+IsAmong number [] = ⊥
+IsAmong number (n ∷ numbers) = (n ≡ number) ⊎ IsAmong number numbers
+
+-- the turn is a begin that was answered with this upload, or one of the turns is
+abbrev pub IsBeginOf : ℕ → SessionTurn → Type 0
+IsBeginOf upload (reported_as manner (took (change command) (Ok (replies.Upload number plan)))) = (begins command ≡ true) × (number ≡ upload)
+IsBeginOf upload turn = ⊥
+
+abbrev pub WasBegunBy : ℕ → List SessionTurn → Type 0
+WasBegunBy upload [] = ⊥
+WasBegunBy upload (turn ∷ turns) = IsBeginOf upload turn ⊎ WasBegunBy upload turns
+
+-- a session has to abort only what it began itself
+abbrev pub OwnWereBegun : Type 0
+OwnWereBegun = (at_end : UploadsAtEnd) (turns : List SessionTurn) (upload : ℕ) → IsAmong upload (own_of at_end turns) → WasBegunBy upload turns

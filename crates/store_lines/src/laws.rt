@@ -1,5 +1,6 @@
 //! Laws of the definitions.
 
+ghost use Rattle.store_lines.specs.Owning.{OwnWereBegun};
 ghost use Rattle.store_lines.specs.Session.{FramesAlike};
 ghost use Rattle.store_lines.specs.Spelling.{LongIsNone, PatternIs, ReadCommandIsSpelled, SpelledCommandIsRead};
 
@@ -11,7 +12,8 @@ pub fn script_laws()
     ensures long { LongIsNone }
 {}
 
-/// A fact about the definition that the contract of `serve` uses. The call does nothing.
+/// Facts about the definitions that the contracts of `serve` and `serve_over` use. The call does nothing.
 pub fn session_laws()
     ensures frames { FramesAlike }
+    ensures own { OwnWereBegun }
 {}

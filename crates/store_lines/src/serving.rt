@@ -169,7 +169,9 @@ fn serve_line<A: Access, R: BufRead, W: Write>(
     ensures cause { IfErr result (λ cause. cause ≢ Cause.OutOfMemory) }
 {
     match line {
-        Line::Has(request) => return serve_request(alloc, access, own, reader, writer, request, work),
+        Line::Has(request) => return serve_request(
+            alloc, access, own, reader, writer, request, work,
+        ),
         Line::Empty => report(writer, Answer::Nothing)?,
         Line::Bad => report(writer, Answer::Bad)?,
         Line::Lost => refuse(writer, Refusal::NoMemory)?,

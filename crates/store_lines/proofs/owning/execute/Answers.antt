@@ -10,14 +10,14 @@ returns-clause-reported g c =
     let own = c.args.own.now in
     let room = c.make_room.new.self in
     on_ok_weaker c.report.result (executed g.A.Access.reach (g.A.Access.stands c.args.access.now) (g.A.Access.stands c.step-reply.new.access) own room c.step-reply.new.self c.args.command c.step-reply.result (Appends (g.W.Write.contents c.args.writer.now) (g.W.Write.contents c.report.new.writer))
-        (search rules) (search rules) c.step-reply.ensures.took c.step-reply.ensures.kept c.step-reply.ensures.noted) c.report.ensures.wrote
+    (search rules) (search rules) c.step-reply.ensures.took c.step-reply.ensures.kept c.step-reply.ensures.noted) c.report.ensures.wrote
 
 pub returns-clause-failed : goal.returns-clause-failed
 returns-clause-failed g c =
     let own = c.args.own.now in
     let room = c.make_room.new.self in
     on_err_weaker c.report.result (executed g.A.Access.reach (g.A.Access.stands c.args.access.now) (g.A.Access.stands c.step-reply.new.access) own room c.step-reply.new.self c.args.command c.step-reply.result (WroteSome (g.W.Write.contents c.args.writer.now) (g.W.Write.contents c.report.new.writer))
-        (search rules) (search rules) c.step-reply.ensures.took c.step-reply.ensures.kept c.step-reply.ensures.noted) c.report.ensures.failed
+    (search rules) (search rules) c.step-reply.ensures.took c.step-reply.ensures.kept c.step-reply.ensures.noted) c.report.ensures.failed
 
 pub returns-then-not-make_room-clause-reported : goal.returns-then-not-make_room-clause-reported
 returns-then-not-make_room-clause-reported g c =
