@@ -26,13 +26,13 @@ use Rattle.store_upload.specs.Uploads.{IsUpload, ModelUpload, UploadPlan, closed
 use Rattle.store_upload.specs.declared.refusal.FinishFault.{FinishFault}
 use Rattle.store_upload.specs.declared.refusal.FinishFault.TheVariants.{Incomplete, NotFixed}
 use Rattle.store_shared.specs.Made.{IsFitting, Numbers, empty_at, run_of, store_of}
-use Rattle.store_lease.specs.Laws.{BegunIsOpen, HoldsPart, IsOpen, SealedIsHeld, SealsWhatWasPut, StaysOpen, StaysPut, begins, ends, forgets, seals}
+use Rattle.store_lease.specs.Laws.{BegunIsOpen, HoldsPart, IsOpen, NumbersRise, SealedIsHeld, SealsWhatWasPut, StaysOpen, StaysPut, begins, ends, forgets, seals}
 use Rattle.store_lease.specs.Steps.{WereAccepted}
 use Rattle.store_lease.proofs.Accepted.{each_was_accepted, were_before}
 use Rattle.store_lease.proofs.Along.{all_after, all_both, along, run_join}
 use Rattle.store_lease.proofs.ObjectsStay.{Holds, call_holds, seal_holds}
 use Rattle.store_lease.proofs.Slices.{placed_some, slice_from}
-use Rattle.store_lease.proofs.UploadsStay.{HasBytes, begun_there, call_keeps, put_there}
+use Rattle.store_lease.proofs.UploadsStay.{HasBytes, begun_rises, begun_there, call_keeps, put_there}
 
 -- ---- steps
 
@@ -113,6 +113,18 @@ stays_open limits calls more upload u accepted found apart =
     subst Keeps (sym (run_join (empty_at limits) calls more))
     (along Keeps (λ (c : Call). (ends upload c ≡ false) × IsFitting c) (call_keeps upload u full) s more (all_both (λ (c : Call). ends upload c ≡ false) IsFitting more apart (all_after IsFitting calls more accepted.fit))
     (record { begun = u; found = found; tenant = refl; plan = refl; parts = λ offset bytes has. has }))
+
+pub numbers_rise : NumbersRise
+numbers_rise limits calls more first second tenant other earlier later plan other_plan accepted begins_first was_first begins_second was_second =
+    let s : ModelStore = store_of limits calls in
+    let one = was_begun s (store_of limits (calls ++ change first ∷ [])) first tenant earlier plan was_first begins_first in
+    let two = was_begun (store_of limits (calls ++ change first ∷ more)) (store_of limits ((calls ++ change first ∷ more) ++ change second ∷ [])) second other later other_plan was_second begins_second in
+    let Keeps : ModelStore → Type 0 = λ t. earlier < t.state.begun in
+    let after : Keeps (store_of limits (calls ++ change first ∷ [])) = let next = ap (λ (b : ModelStoreBooks). b.begun) one.is in omega (arith, next, one.number) in
+    let fit : AllByRecursion IsFitting more = all_after IsFitting (calls ++ change first ∷ []) more (subst (AllByRecursion IsFitting) (sym (append_assoc calls (change first ∷ []) more)) accepted.fit) in
+    let at_last : Keeps (store_of limits ((calls ++ change first ∷ []) ++ more)) = subst Keeps (sym (run_join (empty_at limits) (calls ++ change first ∷ []) more)) (along Keeps IsFitting (begun_rises earlier) (store_of limits (calls ++ change first ∷ [])) more fit after) in
+    let there : Keeps (store_of limits (calls ++ change first ∷ more)) = subst (λ (c : List Call). Keeps (store_of limits c)) (append_assoc calls (change first ∷ []) more) at_last in
+    omega (arith, there, two.number)
 
 -- an upload that is open after a call
 open_after : (limits : Numbers) (calls more : List Call) (call : Call) (upload : ℕ) (u : ModelOwnedUpload (List ℕ)) → WereAccepted limits (calls ++ call ∷ more) → upload_at (store_of limits (calls ++ call ∷ [])).state upload ≡ Some u → AllByRecursion (λ c. ends upload c ≡ false) more

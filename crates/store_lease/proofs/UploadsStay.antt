@@ -1,5 +1,5 @@
 -- An upload is open, with what it holds, until a call seals or aborts it.
-use Rattle.std.proofs.Common.{◌≡◌, ◌∙◌, ◌<◌, ℕ, Bool, true, false, true≢false, List, [], ◌∷◌, Option, Some, None, arith, cond, refl, ap, sym, subst, length}
+use Rattle.std.proofs.Common.{◌≡◌, ◌∙◌, ◌+◌, ◌<◌, ℕ, Bool, true, false, true≢false, List, [], ◌∷◌, Option, Some, None, arith, cond, refl, ap, sym, subst, length}
 use Rattle.std.specs.Prelude.{◌==◌, ◌≢◌, if◌then◌else◌, option_map}
 use Rattle.std.specs.BTreeMap.{insert_entry}
 use Rattle.std.specs.Map.{lookup, remove_entry, set_value}
@@ -181,6 +181,63 @@ module _ (upload : ℕ) (u : ModelOwnedUpload (List ℕ)) (full : HasBytes u) wh
       by (change (commands.Forget t at)) apart = if_accepted_keeps _ Keeps s was (forget_refusal hash_of b t at) _ (λ none. left_keeps upload u b t at (object_at hash_of b at) was)
       by (put m p) apart = if_accepted_keeps _ Keeps s was (part_refused b m p) _ (λ none. put_keeps b m p apart.1 none (upload_at b m) refl was)
       by (ask question) apart = was
+
+-- ---- numbers
+
+module _ (least : ℕ) where
+  abbrev Above : ModelStore → Type 0
+  Above t = least < t.state.begun
+
+  fix_above : (s : ModelStore) (m n : ℕ) (o : Option (ModelOwnedUpload (List ℕ))) → Above s → least < (with_end s.state m n o).begun
+  fix_above s m n None was = was
+  fix_above s m n (Some w) was = was
+
+  new_above : (s : ModelStore) (m : ℕ) (content : List ℕ) (o : Option (ModelOwnedUpload (List ℕ))) → Above s → least < (with_new s.state m content o).begun
+  new_above s m content None was = was
+  new_above s m content (Some w) was = was
+
+  known_above : (s : ModelStore) (m : ℕ) (at : List ℕ) (o : Option (ModelOwnedUpload (List ℕ))) (object : Option ModelObject) → Above s → least < (with_known hash_of s.state m at o object).begun
+  known_above s m at None object was = was
+  known_above s m at (Some w) None was = was
+  known_above s m at (Some w) (Some object) was = was
+
+  left_above : (s : ModelStore) (t : ℕ) (at : List ℕ) (object : Option ModelObject) → Above s → least < (with_left hash_of s.state t at object).begun
+  left_above s t at None was = was
+  left_above s t at (Some object) was = was
+
+  part_above : (s : ModelStore) (m : ℕ) (p : ModelPrepared) (o : Option (ModelOwnedUpload (List ℕ))) → Above s → least < (with_part length s.state m p.part.offset p.part.bytes o).begun
+  part_above s m p None was = was
+  part_above s m p (Some w) was = was
+
+  sealed_above : (s : ModelStore) (m : ℕ) (known : Option ModelObject) → Above s → least < (sealed_by s.state m known).state.begun
+  sealed_above s m None was = new_above s m (content_in s.state m) (upload_at s.state m) was
+  sealed_above s m (Some object) was = known_above s m (address_in s.state m) (upload_at s.state m) (object_at hash_of s.state (address_in s.state m)) was
+
+  -- no call lowers the number of the next upload
+  pub begun_rises : (s : ModelStore) (c : Call) → IsFitting c → Above s → Above (after_call s c)
+  begun_rises s c fits was = by c
+    where
+      b : ModelStoreBooks
+      b = s.state
+
+      more : least < b.begun + 1
+      more = omega (arith, was)
+
+      filed : (m : ℕ) → Above (advanced_by s (replied replies.Sealed (filed_in b m)))
+      filed m = if_accepted_keeps _ Above s was (file_refusal length hash_of b m (address_in b m)) (sealed_by b m (object_at hash_of b (address_in b m))) (λ none. sealed_above s m (object_at hash_of b (address_in b m)) was)
+
+      by : (d : Call) → Above (after_call s d)
+      by (change (commands.OpenTenant limit)) = if_accepted_keeps _ Above s was (tenant_refusal b limit) _ (λ none. was)
+      by (change (commands.SetLimit t limit)) = if_accepted_keeps _ Above s was (limit_refusal length b t limit) _ (λ none. was)
+      by (change (commands.Begin t len)) = if_accepted_keeps _ Above s was (begin_refusal length b t len) _ (λ none. more)
+      by (change (commands.BeginOpen t at_most)) = if_accepted_keeps _ Above s was (begin_refusal length b t at_most) _ (λ none. more)
+      by (change (commands.Fix m n)) = if_accepted_keeps _ Above s was (fix_refusal length b m n) _ (λ none. fix_above s m n (upload_at b m) was)
+      by (change (commands.Seal m)) = then_keeps _ Above s was (ready_refusal length b m) (filed_in b m) (filed m)
+      by (change (commands.SealAs m at)) = then_keeps _ Above s was (ready_refusal length b m) _ (then_keeps _ Above s was (address_refused b m at) (filed_in b m) (filed m))
+      by (change (commands.Abort m)) = if_accepted_keeps _ Above s was (abort_refusal b m) _ (λ none. was)
+      by (change (commands.Forget t at)) = if_accepted_keeps _ Above s was (forget_refusal hash_of b t at) _ (λ none. left_above s t at (object_at hash_of b at) was)
+      by (put m p) = if_accepted_keeps _ Above s was (part_refused b m p) _ (λ none. part_above s m p (upload_at b m) was)
+      by (ask question) = was
 
 -- ---- a begin
 

@@ -1,6 +1,6 @@
 -- What a client may rely on, whatever other clients do. A shared store is what its accepted calls make of an empty one (`store_of`). The laws
 -- are about any call of that list, and so about a client's own too: it is the last call that the client has then seen (`TookStep`).
-use Rattle.std.specs.Prelude.{◌≡◌, ◌==◌, ◌&&◌, ◌++◌, ℕ, Bool, true, false, List, [], ◌∷◌, Some, Ok, drop, length, take}
+use Rattle.std.specs.Prelude.{◌≡◌, ◌<◌, ◌==◌, ◌&&◌, ◌++◌, ℕ, Bool, true, false, List, [], ◌∷◌, Some, Ok, drop, length, take}
 use Rattle.std.specs.List.{AllByRecursion}
 use Rattle.std.specs.Map.{lookup}
 use Rattle.std.specs.Str.{bytes_eq}
@@ -79,6 +79,17 @@ BegunIsOpen = (limits : Numbers) (calls more : List Call) (command : Command) (t
     → WasAccepted limits calls (change command) (replies.Upload upload plan)
     → AllByRecursion (λ c. ends upload c ≡ false) more
     → IsOpen (store_of limits (calls ++ change command ∷ more)).state upload (record { tenant = tenant; upload = new_upload plan })
+
+-- A later upload has a greater number: each number is answered to one begin. So a session that aborts the uploads that its own begins were
+-- answered with aborts no upload of another.
+abbrev pub NumbersRise : Type 0
+NumbersRise = (limits : Numbers) (calls more : List Call) (first second : Command) (tenant other earlier later : ℕ) (plan other_plan : UploadPlan)
+    → WereAccepted limits (calls ++ change first ∷ more)
+    → begins tenant first ≡ true
+    → WasAccepted limits calls (change first) (replies.Upload earlier plan)
+    → begins other second ≡ true
+    → WasAccepted limits (calls ++ change first ∷ more) (change second) (replies.Upload later other_plan)
+    → earlier < later
 
 -- ---- parts
 

@@ -1,5 +1,5 @@
 use Rattle.store_lease.proofs.Accepted.{each_was_accepted}
-use Rattle.store_lease.proofs.Promises.{begun_is_open, sealed_is_held, seals_what_was_put, stays_open, stays_put}
+use Rattle.store_lease.proofs.Promises.{begun_is_open, numbers_rise, sealed_is_held, seals_what_was_put, stays_open, stays_put}
 use Rattle.store_lease.proofs.laws.client_laws.Goals as goal
 
 pub returns-clause-each : goal.returns-clause-each
@@ -10,6 +10,9 @@ returns-clause-begun c = begun_is_open
 
 pub returns-clause-stays : goal.returns-clause-stays
 returns-clause-stays c = stays_open
+
+pub returns-clause-numbers : goal.returns-clause-numbers
+returns-clause-numbers c = numbers_rise
 
 pub returns-clause-put : goal.returns-clause-put
 returns-clause-put c = stays_put
