@@ -76,13 +76,17 @@ sum_line = with_work (with_rule (with_mode (with_list (with_names (new_app (code
 abbrev pub run_line : App
 run_line = new_app (codes "run")
 
--- `[--at PATH] [--sessions N] [--keep-uploads]`
+-- `[--at PATH] [--sessions N]`
 abbrev pub with_door : App → App
-with_door a = with_rule (with_rule (with_rule a (value_rule (codes "at"))) (number_rule (codes "sessions") max_sessions)) (flag_rule (codes "keep-uploads"))
+with_door a = with_rule (with_rule a (value_rule (codes "at"))) (number_rule (codes "sessions") max_sessions)
+
+-- `[--keep-uploads]`
+abbrev pub with_kept : App → App
+with_kept a = with_rule a (flag_rule (codes "keep-uploads"))
 
 -- `serve` with these
 abbrev pub serve_line : App
-serve_line = with_door (new_app (codes "serve"))
+serve_line = with_kept (with_door (new_app (codes "serve")))
 
 -- `[--workers W] [--part-chunks P]`
 abbrev pub with_cut : App → App

@@ -5,7 +5,7 @@ ghost use Rattle.clap.specs.Words.{app_of, new_app, rule_of};
 ghost use Rattle.clap.specs.declared.builder.command.Command.TheViews.{out-Command as fields_of};
 ghost use Rattle.store_upload.specs.Uploads.{max_part_chunks};
 ghost use Rattle.store_command_line.specs.CommandLine.{max_sessions, max_output_len, max_threads, value_rule, flag_rule, short_flag_rule};
-ghost use Rattle.store_command_line.specs.CommandLine.{words_rule, program_line, with_cut, with_door, with_keys, with_list, with_lists, with_mode, with_names};
+ghost use Rattle.store_command_line.specs.CommandLine.{words_rule, program_line, with_cut, with_door, with_kept, with_keys, with_list, with_lists, with_mode, with_names};
 ghost use Rattle.store_command_line.specs.CommandLine.{with_shown, with_missing, with_work, sum_line, run_line, serve_line, upload_line, check_line};
 ghost use Rattle.store_command_line.specs.CommandLine.{audit_line, migrate_line, answering_line, storing_line, command_line, number_rule};
 
@@ -236,15 +236,6 @@ fn sessions_argument<'a>(alloc: Global) -> Arg<'a>
     value_argument(alloc, "sessions", "N", help).value_parser(value_parser!(u32).range(1..65))
 }
 
-// The flag that keeps open uploads.
-fn keep_uploads_argument<'a>(alloc: Global) -> Arg<'a>
-    ensures rule { rule_of result ≡ flag_rule (codes "keep-uploads") }
-    ensures local { result.global ≡ false }
-{
-    let help = "With --at: keep the open uploads of a client that ends, instead of aborting them";
-    flag_argument(alloc, "keep-uploads", help)
-}
-
 // The options for clients of a shared store.
 fn with_door<'a>(alloc: Global, command: Command<'a>) -> Result<Command<'a>, AllocError>
     requires { (fields_of command).has_globals ≡ false }
@@ -254,8 +245,17 @@ fn with_door<'a>(alloc: Global, command: Command<'a>) -> Result<Command<'a>, All
     let at = "Serve the same store to clients that write their number to this named pipe";
     command
         .arg(value_argument(alloc, "at", "PATH", at))?
-        .arg(sessions_argument(alloc))?
-        .arg(keep_uploads_argument(alloc))
+        .arg(sessions_argument(alloc))
+}
+
+// Whether open uploads of clients are kept.
+fn with_kept<'a>(alloc: Global, command: Command<'a>) -> Result<Command<'a>, AllocError>
+    requires { (fields_of command).has_globals ≡ false }
+    ensures shape { IfOk result (λ c. app_of c ≡ with_kept (app_of command.entry)) }
+    ensures local { IfOk result (λ c. (fields_of c).has_globals ≡ false) }
+{
+    let help = "With --at: keep the open uploads of a client that ends, instead of aborting them";
+    command.arg(flag_argument(alloc, "keep-uploads", help))
 }
 
 // `serve` without its options.
@@ -272,7 +272,8 @@ fn serve_command<'a>(alloc: Global) -> Result<Command<'a>, AllocError>
     ensures shape { IfOk result (λ c. app_of c ≡ serve_line) }
     ensures local { IfOk result (λ c. (fields_of c).has_globals ≡ false) }
 {
-    with_door(alloc, bare_serve(alloc))
+    let command = with_door(alloc, bare_serve(alloc))?;
+    with_kept(alloc, command)
 }
 
 // An option `--ID` without a value.
