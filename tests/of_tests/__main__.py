@@ -142,7 +142,7 @@ def try_growths(trials, folder):
     os.mkdir(empty)
     trials.passes("growths over the stand-in", [growths, right, "--crates", crates[right]])
     trials.passes("growths over the stand-in alone", [growths, right, "--program-alone"])
-    trials.fails("growths over a stand-in that refuses no command", [growths, ending, "--program-alone"], "no run reports", 4)
+    trials.fails("growths over a stand-in that refuses no command", [growths, ending, "--program-alone"], "no run reports", 5)
     count = len(tests)
     trials.fails("growths without test programs", [growths, right, "--crates", empty], "can't be run", count)
     trials.fails("growths and a test that is not listed", [growths, right, "--crates", crates[unlisted]], "does not list it", 1)

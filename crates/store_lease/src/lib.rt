@@ -3,7 +3,7 @@
 //! A `Lease` is an `Access` to a `Shared` store, of which it has only the calls of `Leased`. Each of its calls takes the store's lock for
 //! one step of the model. Everything else is done without the lock: lines and parts are read and hashed before, and answers are written
 //! after. What a step takes out of the store (a forgotten object, the parts of an aborted or sealed upload, a refused part, the copy of the
-//! journal's entries) is dropped afterwards, too.
+//! journal's entries) is dropped afterwards, too. The aborts at a session's end are steps like any other.
 //!
 //! What other threads do between two calls is not known: a call finds a lawful store, whose journal continues the one that the session's
 //! last call left (`shared_reach`). So an answer to the session is never revoked. Its `Front` has seen the journal as the last call left

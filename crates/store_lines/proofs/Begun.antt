@@ -9,7 +9,7 @@ use Rattle.store_core.specs.declared.command.Command.TheVariants as commands
 use Rattle.store_core.specs.declared.store.questions.Reply.{Reply}
 use Rattle.store_core.specs.declared.store.questions.Reply.TheVariants as replies
 use Rattle.store_lines.specs.Owning.{IsAmong, IsBeginOf, OwnWereBegun, WasBegunBy, accepted_after, own_after, without}
-use Rattle.store_lines.specs.Script.{Turn, bad, listed, skipped, took, unmade, unplanned}
+use Rattle.store_lines.specs.Script.{took}
 use Rattle.store_lines.specs.Session.{SessionTurn, as_script, filed, no_memory, reported_as}
 use Rattle.store_lines.specs.declared.owning.UploadsAtEnd.{UploadsAtEnd}
 use Rattle.store_lines.specs.declared.owning.UploadsAtEnd.TheVariants as at_end

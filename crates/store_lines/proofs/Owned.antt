@@ -1,7 +1,6 @@
 -- Which uploads of a session's own are open after its turns.
-use Rattle.std.proofs.Common.{◌≡◌, ◌∙◌, ◌++◌, ◌∷◌, [], ℕ, List, Some, None, Option, Ok, Err, Result, ap, length, refl, subst, sym, true}
+use Rattle.std.proofs.Common.{◌≡◌, ◌++◌, ◌∷◌, [], ℕ, List, Some, None, Option, Ok, Err, Result, length, refl, subst, sym, true}
 use Rattle.std.specs.Prelude.{IfOk, IfSome}
-use Rattle.std.specs.List.{fold}
 use Rattle.std.proofs.lemmas.List.Sums.{fold-append}
 use Rattle.b3_forest.specs.Parts.{ModelPrepared, planned}
 use Rattle.store_books.specs.declared.refusal.Refusal.{Refusal}
@@ -14,10 +13,10 @@ use Rattle.store_core.specs.declared.store.questions.Question.{Question}
 use Rattle.store_core.specs.declared.store.questions.Reply.{Reply}
 use Rattle.store_lines.specs.Access.{Reach, SessionState, Took, advance, at}
 use Rattle.store_lines.specs.Owning.{Session, begins, own_after, own_of, session_of, step_after}
-use Rattle.store_lines.specs.Script.{IsTurnOfStep, Turn, bad, listed, range_entries, skipped, took, unmade, unplanned}
+use Rattle.store_lines.specs.Script.{IsTurnOfStep, Turn, bad, listed, skipped, took, unmade, unplanned}
 use Rattle.store_lines.specs.Session.{Manner, SessionTurn, as_script, filed, no_memory, reported_as, session_turn_text}
 use Rattle.store_lines.specs.Questions.{answer_text}
-use Rattle.store_lines.specs.Turns.{AreAborted, Finishes, IsLinkedBytes, IsLinkedCall, IsLinkedChange, IsLinkedEntries, IsLinkedMade, IsLinkedPart, IsLinkedPlan, IsLinkedPut, IsLinkedStep, ServedAllOver, ServedCutOver, ServedOver, ServedSomeOver}
+use Rattle.store_lines.specs.Turns.{AreAborted, Finishes, IsLinkedBytes, IsLinkedCall, IsLinkedChange, IsLinkedEntries, IsLinkedMade, IsLinkedPart, IsLinkedPlan, IsLinkedStep, ServedAllOver, ServedCutOver, ServedOver, ServedSomeOver}
 use Rattle.store_lines.specs.inner.Reporting.{AbortsOver, Notes, Owns, ReportedOver}
 use Rattle.store_lines.specs.declared.owning.OwnUploads.{OwnUploads}
 use Rattle.store_lines.specs.declared.owning.UploadsAtEnd.{UploadsAtEnd}
@@ -25,9 +24,7 @@ use Rattle.store_lines.specs.declared.owning.UploadsAtEnd.TheVariants as at_end
 use Rattle.store_lines.specs.declared.request.EntryRange.{EntryRange}
 use Rattle.store_upload.specs.Uploads.{UploadPlan, part_fault}
 use Rattle.store_upload.specs.declared.refusal.PartFault.{PartFault}
-use Rattle.edge.specs.Output.{WroteSome}
 use Rattle.edge.specs.declared.outcome.Verdict.{Verdict}
-use Rattle.std.specs.Io.KnownBytes.{Appends}
 
 -- ---- turns that change nothing
 

@@ -1,5 +1,5 @@
 -- A session's own uploads: those that it began itself, and has not sealed or aborted. A session over a shared store aborts them at its end.
-use Rattle.std.specs.Prelude.{◌≡◌, ◌==◌, ◌⊎◌, ℕ, Bool, true, false, List, [], ◌∷◌, ◌++◌, Some, Result, Ok, Err}
+use Rattle.std.specs.Prelude.{◌≡◌, ◌==◌, ◌⊎◌, ℕ, Bool, true, false, List, [], ◌∷◌, ◌++◌, Some, Result, Ok}
 use Rattle.std.specs.List.{fold, position, remove}
 use Rattle.std.specs.Option.{option_map_or}
 use Rattle.store_books.specs.declared.refusal.Refusal.{Refusal}
