@@ -19,5 +19,6 @@ mod Owned
 mod Begun
 mod Serves
 mod Under
+mod Logs
 mod Alone
 mod RedoLengths

@@ -33,7 +33,7 @@ pub record IsUnder (session : Session) (was is : SessionState → Type 0) (own :
   pub plays : (start : SessionState) → was start → (end : SessionState) × (is end × AreLinkedTurns session start input turns end rest × (own ≡ own_of session.at_end turns))
   pub wrote : Appends w1 w2 (flat_map session_turn_text turns)
 
-more_play : (session : Session) (old mid new : SessionState) (input following rest : List ℕ) (turns : List SessionTurn) (turn : SessionTurn) → AreLinkedTurns session old input turns mid following → IsLinkedFirstLine session mid following turn new rest → AreLinkedTurns session old input (turns ++ turn ∷ []) new rest
+pub more_play : (session : Session) (old mid new : SessionState) (input following rest : List ℕ) (turns : List SessionTurn) (turn : SessionTurn) → AreLinkedTurns session old input turns mid following → IsLinkedFirstLine session mid following turn new rest → AreLinkedTurns session old input (turns ++ turn ∷ []) new rest
 more_play session old mid new input following rest [] turn h p =
     let from : IsLinkedFirstLine session old input turn new rest = subst (λ (k : SessionState). IsLinkedFirstLine session k input turn new rest) h.0 (subst (λ (b : List ℕ). IsLinkedFirstLine session mid b turn new rest) h.1 p) in
     (new, rest, from, (refl, refl))
@@ -46,7 +46,7 @@ text_more turns turn = flat_map-append session_turn_text turns (turn ∷ []) ∙
 abbrev pub Noted : Session → List ℕ → List ℕ → SessionTurn → Type 0
 Noted session own new turn = new ≡ own_after own turn session.at_end
 
-noted : (session : Session) (own new : List ℕ) (turns : List SessionTurn) (turn : SessionTurn) → own ≡ own_of session.at_end turns → Noted session own new turn → new ≡ own_of session.at_end (turns ++ turn ∷ [])
+pub noted : (session : Session) (own new : List ℕ) (turns : List SessionTurn) (turn : SessionTurn) → own ≡ own_of session.at_end turns → Noted session own new turn → new ≡ own_of session.at_end (turns ++ turn ∷ [])
 noted session own new turns turn is n = n ∙ (ap (λ (o : List ℕ). own_after o turn session.at_end) is ∙ sym (own_more session.at_end turns turn))
 
 -- nothing is done between two lines
@@ -141,11 +141,11 @@ unended session was is own (Some input) now w1 w2 read kept h r some needs lacks
       wrote = h.wrote;
     }
 
-some_left : (rest : List ℕ) (read : LineRead) (kept : List ℕ) → IsSessionLine (take_through 10 rest) read kept → 0 < read.count → 0 < length rest
+pub some_left : (rest : List ℕ) (read : LineRead) (kept : List ℕ) → IsSessionLine (take_through 10 rest) read kept → 0 < read.count → 0 < length rest
 some_left rest read kept r some = take_through_nonempty 10 rest (omega (arith, r.count_is, some))
 
 -- what a line that was read came to
-served_now : (session : Session) (was is : SessionState → Type 0) (Has : SessionTurn → Type 0) (now then left : Option (List ℕ)) (Wrote : List ℕ → Type 0) (rest : List ℕ) (read : LineRead) (kept : List ℕ) (is_whole : Bool) → now ≡ Some rest → IfSome now (λ left. IsSessionLine (take_through 10 left) read kept)
+pub served_now : (session : Session) (was is : SessionState → Type 0) (Has : SessionTurn → Type 0) (now then left : Option (List ℕ)) (Wrote : List ℕ → Type 0) (rest : List ℕ) (read : LineRead) (kept : List ℕ) (is_whole : Bool) → now ≡ Some rest → IfSome now (λ left. IsSessionLine (take_through 10 left) read kept)
     → DropsThrough now then 10 → IfSome then (λ following. ServesReadOver session was is Has is_whole read kept following left Wrote) → ServesOver session was is Has is_whole (request_in (take_through 10 rest)) (take_through 10 rest) (drop_through 10 rest) left Wrote
 served_now session was is Has now then left Wrote rest read kept is_whole at r drops served =
     let read2 : IsSessionLine (take_through 10 rest) read kept = subst (λ (o : Option (List ℕ)). IfSome o (λ l. IsSessionLine (take_through 10 l) read kept)) at r in

@@ -12,4 +12,5 @@ pub mod Session
 pub mod Access
 pub mod Owning
 pub mod Turns
+pub mod Loading
 pub mod inner

@@ -218,3 +218,7 @@ pub record ServedCutOver (session : Session) (was : SessionState → Type 0) (Th
   pub rest : List ℕ
   pub answered : ServedOver session was Then input output rest
   pub wrote : WroteSome old new output
+
+-- lines of a prefix of the input were answered in order, and the next one left this
+abbrev pub StoppedOver : Session → (SessionState → Type 0) → (SessionState → Type 0) → List ℕ → Type 0
+StoppedOver session was is input = (output : List ℕ) × (rest : List ℕ) × ServedOver session was (λ turns last. is last) input output rest

@@ -125,7 +125,7 @@ fn serve_lines<A: Access, R: BufRead, W: Write>(
 }
 
 // Reads the next line with its newline, into room for a request.
-fn next_line<R: BufRead>(reader: &mut R, line: &mut Vec<u8>) -> Result<LineRead, Cause>
+pub(crate) fn next_line<R: BufRead>(reader: &mut R, line: &mut Vec<u8>) -> Result<LineRead, Cause>
     requires { max_request ≤ vec_capacity line.old }
     ensures read { IfOk result (λ read. IfSome (R.Read.remaining reader.old) (λ input. IsSessionLine (take_through 10 input) read line.new.items)) }
     ensures rest { OnOk result (DropsThrough (R.Read.remaining reader.old) (R.Read.remaining reader.new) 10) }
@@ -144,7 +144,7 @@ fn is_cut<A: Access>(access: &A, read: LineRead) -> bool
 }
 
 // Serves a line. Returns false if its bytes are truncated.
-fn serve_line<A: Access, R: BufRead, W: Write>(
+pub(crate) fn serve_line<A: Access, R: BufRead, W: Write>(
     alloc: Global,
     access: &mut A,
     own: &mut OwnUploads,

@@ -4,6 +4,7 @@ use Rattle.std.specs.Io.BufRead.{strip_last}
 use Rattle.edge.specs.Lines.{IsLineRead}
 use Rattle.edge.specs.declared.lines.LineRead.{LineRead}
 use Rattle.store_lines.specs.declared.request.Request.{Request}
+use Rattle.store_lines.specs.declared.request.Request.TheVariants.{File, PutRaw}
 use Rattle.store_lines.specs.Lines.{max_request}
 use Rattle.store_lines.specs.Grammar.{command_at}
 use Rattle.store_lines.specs.Requests.{request_in}
@@ -40,3 +41,13 @@ IsOwnOrScript whole line = (None ≡ request_in whole) × IsLineOf (strip_last 1
 
 pub record IsFound (read : LineRead) (kept : List ℕ) (found : Line) : Type 0 where
   pub is : (whole : List ℕ) → IsSessionLine whole read kept → IsOwnOrScript whole found
+
+-- how many bytes follow the line of a request
+abbrev pub raw_len : Option Request → ℕ
+raw_len (Some (PutRaw part)) = part.len
+raw_len (Some (File filing)) = filing.len
+raw_len _ = 0
+
+-- so many follow the line that was read
+pub record IsRawLen (read : LineRead) (kept : List ℕ) (len : ℕ) : Type 0 where
+  pub is : (whole : List ℕ) → IsSessionLine whole read kept → len ≡ raw_len (request_in whole)
