@@ -6,6 +6,7 @@ ghost use Rattle.store_command_line.specs.Ranges.{InRange};
 mod explaining;
 mod extent;
 mod inputs;
+mod logs;
 mod progress;
 mod replies;
 mod reporting;
@@ -18,18 +19,17 @@ use explaining::{ExplainedAnswers, ExplainedJournal, LastLine, NotedLines, Refus
 use extent::Extent;
 use inputs::{check_status, sum_status};
 use progress::with_progress;
-use replies::Replies;
 use reporting::{GOOD, USAGE, status, stopped};
 use sessions::serve_status;
 use standard::{ProgressLine, StandardError, StandardInput, answer_output, standard_output};
-use std::io::{self, BufReader, BufWriter, IsTerminal};
+use std::io::{BufReader, BufWriter, IsTerminal};
 use std::marker::Brand;
 use std::process::ExitCode;
 use std::sync::Wait;
 use std::thread::Threads;
 use store_command_line::{AskedUpload, Fault, Input, Options, SumInputs, options};
 use store_engines::{Cause, UnnamedLedgers, UploadOptions, Verdict, audit, migrate, upload};
-use store_lines::{run, serve};
+use store_lines::run;
 use words::{Foreign, are_among, no_files, words_of};
 
 // Answers a script.
@@ -48,15 +48,6 @@ fn answered(errors: StandardError<'_>) -> Result<Verdict, Cause> {
     let ended = run(rt.alloc(), &mut lines, &mut answers, &mut work);
     refusals.finish();
     ended
-}
-
-// Serves a session over standard input and output.
-fn served(rt: &HostRuntime) -> Result<Verdict, Cause> {
-    let replies = Replies::new(rt, io::writer(rt))?;
-    let (mut lines, mut answers) = replies.streams(rt, rt.stdin())?;
-    let mut work = Work::new(rt);
-    let ended = serve(rt.alloc(), &mut lines, &mut answers, &mut work);
-    replies.finish(ended)
 }
 
 // Uploads standard input.
@@ -103,8 +94,7 @@ fn perform<T: Threads + Wait + Copy + Send + Sync + Runtime + 'static>(
     match options {
         Options::Sum(options) => sum_status(errors, threads, extent, options, foreign),
         Options::Run => status(errors, answered(errors)),
-        Options::Serve(None) => status(errors, served(rt)),
-        Options::Serve(Some(door)) => serve_status(errors, threads, door),
+        Options::Serve(options) => serve_status(errors, threads, options),
         Options::Upload(asked) => status(errors, uploaded(errors, threads, extent, asked)),
         Options::Check(options) => check_status(errors, threads, extent, options),
         Options::Audit => status(errors, audit(alloc, &mut reader, &mut writer)),

@@ -1,4 +1,4 @@
-//! Clients of one store. Each client writes its number to the door, a named pipe, and has two named pipes of its own: the server reads its
+//! Clients of one store. Without a door, that is the one of standard input and output. Each client of a door writes its number to the door, a named pipe, and has two named pipes of its own: the server reads its
 //! lines from one and writes the answers to the other. Standard input and output are a session too; the program exits when that ends.
 //! A session aborts at its end the uploads that it began itself and that are open still, unless these are kept.
 
@@ -6,6 +6,7 @@ ghost use Rattle.std.specs.Prelude.{◌≡◌};
 ghost use Rattle.store_ledger.specs.Shares.{all_parts};
 ghost use Rattle.store_shared.specs.Made.{full_limits};
 
+use crate::logs::{Log, run_log};
 use crate::replies::serve_streams;
 use crate::reporting::{misused, status, unopened};
 use crate::standard::{ProgressLine, StandardError};
@@ -18,8 +19,8 @@ use std::os::unix::fs::FileTypeExt;
 use std::sync::{Arc, Mutex, Wait};
 use std::thread::Threads;
 use std::{fs, io, thread};
-use store_command_line::DoorOptions;
-use store_core::Limits;
+use store_command_line::{DoorOptions, ServeOptions};
+use store_core::{Limits, Store};
 use store_history::Front;
 use store_lease::Lease;
 use store_ledger::{Ledgers, Share};
@@ -237,12 +238,13 @@ fn at_end(options: &DoorOptions<'_>) -> UploadsAtEnd {
     }
 }
 
-// Serves the clients of a door, and those of standard input and output, until the latter end.
+// Serves the clients of a door, and those of standard input and output, until the latter end; before them, the log is run.
 fn serve_all<L: Ledgers + Send + Sync + 'static, T: Threads + Wait + Copy + Send + 'static>(
     rt: HostRuntime,
     threads: T,
     door: Door,
     options: &DoorOptions<'_>,
+    log: Option<Log<'_>>,
     ledgers: UnnamedLedgers,
 ) -> Result<Verdict, Cause>
     requires bytes { (ledgers.bytes.name ≡ L.bytes_name) × (ledgers.bytes.parts ≡ L.bytes_parts) × (ledgers.bytes.parts ≡ all_parts) }
@@ -251,7 +253,7 @@ fn serve_all<L: Ledgers + Send + Sync + 'static, T: Threads + Wait + Copy + Send
     requires limits { L.limits ≡ full_limits }
 {
     let alloc: Global = rt.alloc();
-    let (store, mut share) = Shared::<L>::new(alloc, Limits::full(), ledgers);
+    let (store, share) = Shared::<L>::new(alloc, Limits::full(), ledgers);
     let server = Server {
         store,
         path: String::from_str(alloc, options.path)?,
@@ -261,16 +263,17 @@ fn serve_all<L: Ledgers + Send + Sync + 'static, T: Threads + Wait + Copy + Send
     let Ok(server) = Arc::new(alloc, server) else {
         return Err(Cause::OutOfMemory);
     };
-    start_all(rt, threads, &server, &mut share, options.sessions)?;
     let front = server.store.lock(&threads).front();
     let mut access = Lease::new(&threads, &server.store, share, front);
-    serve_streams(
-        &rt,
-        &mut access,
-        server.at_end,
-        rt.stdin(),
-        io::writer(&rt),
-    )
+    let progress = ProgressLine::new();
+    let errors = StandardError::new(&rt, &progress);
+    if run_log(errors, &mut access, log)? == Verdict::Refused {
+        return Ok(Verdict::Refused);
+    }
+    let (mut share, front) = access.into_parts();
+    start_all(rt, threads, &server, &mut share, options.sessions)?;
+    let mut access = Lease::new(&threads, &server.store, share, front);
+    serve_streams(&rt, &mut access, server.at_end, rt.stdin(), io::writer(&rt))
 }
 
 // The same, for a store whose ledgers and history are named here.
@@ -279,9 +282,26 @@ fn serve_named<T: Threads + Wait + Copy + Send + 'static>(
     threads: T,
     door: Door,
     options: &DoorOptions<'_>,
+    log: Option<Log<'_>>,
 ) -> Result<Verdict, Cause> {
     let ledgers = UnnamedLedgers::new(rt.alloc())?;
-    serve_all::<Brand, _>(rt, threads, door, options, ledgers)
+    serve_all::<Brand, _>(rt, threads, door, options, log, ledgers)
+}
+
+// Serves a session over standard input and output, on a store that no other client has.
+fn serve_alone(errors: StandardError<'_>, log: Option<Log<'_>>) -> Result<Verdict, Cause> {
+    let rt = errors.runtime();
+    let mut store = Store::new(rt.alloc(), Limits::full());
+    if run_log(errors, &mut store, log)? == Verdict::Refused {
+        return Ok(Verdict::Refused);
+    }
+    serve_streams(
+        rt,
+        &mut store,
+        UploadsAtEnd::Kept,
+        rt.stdin(),
+        io::writer(rt),
+    )
 }
 
 // Whether a path is that of a named pipe, according to the system.
@@ -292,11 +312,12 @@ fn is_pipe(rt: &HostRuntime, path: &str) -> bool {
     }
 }
 
-/// Serves many clients, and returns the exit status.
-pub(crate) fn serve_status<T: Threads + Wait + Copy + Send + 'static>(
+// Serves many clients, and returns the exit status.
+fn door_status<T: Threads + Wait + Copy + Send + 'static>(
     errors: StandardError<'_>,
     threads: &T,
     options: &DoorOptions<'_>,
+    log: Option<Log<'_>>,
 ) -> u8 {
     let rt = errors.runtime();
     if !is_pipe(rt, options.path) {
@@ -306,7 +327,23 @@ pub(crate) fn serve_status<T: Threads + Wait + Copy + Send + 'static>(
         );
     }
     match Door::open(rt, options.path) {
-        Ok(door) => status(errors, serve_named(*rt, *threads, door, options)),
+        Ok(door) => status(errors, serve_named(*rt, *threads, door, options, log)),
         Err(error) => unopened(errors, options.path, &error),
+    }
+}
+
+/// Keeps a store for one client or many, and returns the exit status.
+pub(crate) fn serve_status<T: Threads + Wait + Copy + Send + 'static>(
+    errors: StandardError<'_>,
+    threads: &T,
+    options: &ServeOptions<'_>,
+) -> u8 {
+    let log = match Log::open(errors, options.log) {
+        Ok(log) => log,
+        Err(status) => return status,
+    };
+    match &options.door {
+        Some(door) => door_status(errors, threads, door, log),
+        None => status(errors, serve_alone(errors, log)),
     }
 }

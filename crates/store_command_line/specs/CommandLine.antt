@@ -84,9 +84,13 @@ with_door a = with_rule (with_rule a (value_rule (codes "at"))) (number_rule (co
 abbrev pub with_kept : App → App
 with_kept a = with_rule a (flag_rule (codes "keep-uploads"))
 
+-- `[--load FILE] [--torn]`
+abbrev pub with_log : App → App
+with_log a = with_rule (with_rule a (value_rule (codes "load"))) (flag_rule (codes "torn"))
+
 -- `serve` with these
 abbrev pub serve_line : App
-serve_line = with_kept (with_door (new_app (codes "serve")))
+serve_line = with_log (with_kept (with_door (new_app (codes "serve"))))
 
 -- `[--workers W] [--part-chunks P]`
 abbrev pub with_cut : App → App

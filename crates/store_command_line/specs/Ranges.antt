@@ -36,7 +36,7 @@ IsDoorInRange door = IfSome door (λ d. IsWithin max_sessions d.sessions)
 abbrev pub InRange : Options → Type 0
 InRange (Sum o) = IsSumInRange o
 InRange Run = Unit {0}
-InRange (Serve door) = IsDoorInRange door
+InRange (Serve o) = IsDoorInRange o.door
 InRange (Upload asked) = AreWithin asked
 InRange (Check o) = IfSome o.threads (IsWithin max_threads)
 InRange Audit = Unit {0}

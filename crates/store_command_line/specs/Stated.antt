@@ -16,8 +16,10 @@ use Rattle.store_command_line.specs.declared.said.Fault.{Fault}
 use Rattle.store_command_line.specs.declared.said.Fault.TheVariants.{NoMemory, Usage, Version}
 use Rattle.store_command_line.specs.declared.said.Input.{Input}
 use Rattle.store_command_line.specs.declared.said.Input.TheVariants as inputs
+use Rattle.store_command_line.specs.declared.said.LogOptions.{LogOptions}
 use Rattle.store_command_line.specs.declared.said.Options.{Options}
 use Rattle.store_command_line.specs.declared.said.Options.TheVariants.{Sum, Run, Serve, Upload, Check, Audit, Migrate}
+use Rattle.store_command_line.specs.declared.said.ServeOptions.{ServeOptions}
 use Rattle.store_command_line.specs.declared.said.SumInputs.{SumInputs}
 use Rattle.store_command_line.specs.declared.said.SumInputs.TheVariants.{Standard, Named, Listed}
 use Rattle.store_command_line.specs.declared.said.SumOptions.{SumOptions}
@@ -91,6 +93,14 @@ abbrev pub SaysDoor : Option DoorOptions → Option Text → Option Text → Opt
 SaysDoor None at sessions keep = (at ≡ None) × (sessions ≡ None)
 SaysDoor (Some door) at sessions keep = (at ≡ Some door.path.now) × SpellsOr default_sessions sessions door.sessions × SaysFlag keep door.keep_uploads
 
+-- the path of a log and whether its last line may be truncated, and nothing without a path
+abbrev pub SaysLog : Option LogOptions → Option Text → Option Text → Type 0
+SaysLog None load torn = load ≡ None
+SaysLog (Some log) load torn = (load ≡ Some log.path.now) × SaysFlag torn log.torn
+
+abbrev pub SaysServe : ServeOptions → List Row → Type 0
+SaysServe o rows = SaysLog o.log (first_of (codes "load") rows) (one_of (codes "torn") rows) × SaysDoor o.door (first_of (codes "at") rows) (first_of (codes "sessions") rows) (one_of (codes "keep-uploads") rows)
+
 -- which lines of a report are written, from `--quiet` and `--status`; `--status` takes precedence
 abbrev pub shown_by : Bool → Bool → Shown
 shown_by quiet true = Nothing
@@ -115,7 +125,7 @@ pub record SaysCheck (o : CheckOptions) (rows : List Row) : Type 0 where
 abbrev pub Says : Options → Option (Text × List Row) → Type 0
 Says (Sum o) found = (rows : List Row) × (found ≡ Some (codes "sum", rows)) × SaysSum o rows
 Says Run found = (rows : List Row) × (found ≡ Some (codes "run", rows))
-Says (Serve door) found = (rows : List Row) × (found ≡ Some (codes "serve", rows)) × SaysDoor door (first_of (codes "at") rows) (first_of (codes "sessions") rows) (one_of (codes "keep-uploads") rows)
+Says (Serve o) found = (rows : List Row) × (found ≡ Some (codes "serve", rows)) × SaysServe o rows
 Says (Upload o) found = (rows : List Row) × (found ≡ Some (codes "upload", rows)) × SaysUpload o rows
 Says (Check o) found = (rows : List Row) × (found ≡ Some (codes "check", rows)) × SaysCheck o rows
 Says Audit found = (rows : List Row) × (found ≡ Some (codes "audit", rows))

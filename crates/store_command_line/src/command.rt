@@ -5,7 +5,7 @@ ghost use Rattle.clap.specs.Words.{app_of, new_app, rule_of};
 ghost use Rattle.clap.specs.declared.builder.command.Command.TheViews.{out-Command as fields_of};
 ghost use Rattle.store_upload.specs.Uploads.{max_part_chunks};
 ghost use Rattle.store_command_line.specs.CommandLine.{max_sessions, max_output_len, max_threads, value_rule, flag_rule, short_flag_rule};
-ghost use Rattle.store_command_line.specs.CommandLine.{words_rule, program_line, with_cut, with_door, with_kept, with_keys, with_list, with_lists, with_mode, with_names};
+ghost use Rattle.store_command_line.specs.CommandLine.{words_rule, program_line, with_cut, with_door, with_kept, with_log, with_keys, with_list, with_lists, with_mode, with_names};
 ghost use Rattle.store_command_line.specs.CommandLine.{with_shown, with_missing, with_work, sum_line, run_line, serve_line, upload_line, check_line};
 ghost use Rattle.store_command_line.specs.CommandLine.{audit_line, migrate_line, answering_line, storing_line, command_line, number_rule};
 
@@ -258,6 +258,20 @@ fn with_kept<'a>(alloc: Global, command: Command<'a>) -> Result<Command<'a>, All
     command.arg(flag_argument(alloc, "keep-uploads", help))
 }
 
+// The log that is run before the first client is served.
+fn with_log<'a>(alloc: Global, command: Command<'a>) -> Result<Command<'a>, AllocError>
+    requires { (fields_of command).has_globals ≡ false }
+    ensures shape { IfOk result (λ c. app_of c ≡ with_log (app_of command.entry)) }
+    ensures local { IfOk result (λ c. (fields_of c).has_globals ≡ false) }
+{
+    let load =
+        "First run the lines of this file, such as those that `redo` answers; end if one is refused";
+    let torn = "With --load: go on if the file's last line is truncated, without that line";
+    command
+        .arg(value_argument(alloc, "load", "FILE", load))?
+        .arg(flag_argument(alloc, "torn", torn))
+}
+
 // `serve` without its options.
 fn bare_serve<'a>(alloc: Global) -> Command<'a>
     ensures shape { app_of result ≡ new_app (codes "serve") }
@@ -273,7 +287,8 @@ fn serve_command<'a>(alloc: Global) -> Result<Command<'a>, AllocError>
     ensures local { IfOk result (λ c. (fields_of c).has_globals ≡ false) }
 {
     let command = with_door(alloc, bare_serve(alloc))?;
-    with_kept(alloc, command)
+    let command = with_kept(alloc, command)?;
+    with_log(alloc, command)
 }
 
 // An option `--ID` without a value.

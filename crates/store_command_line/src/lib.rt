@@ -7,7 +7,7 @@
 //! |---|---|
 //! | `sum` | `--key HEX64`, `--key-file FILE` or `--context TEXT`; `--length N` with N from 1 to 65536, `--threads T` with T from 1 to 16, `--no-progress`; `--name NAME`, or files' names, or `--files-from LIST` with or without `--null` |
 //! | `run` | |
-//! | `serve` | `--at PATH`, and with it `--sessions N` with N from 1 to 64, by default 16, and `--keep-uploads` |
+//! | `serve` | `--at PATH`, and with it `--sessions N` with N from 1 to 64, by default 16, and `--keep-uploads`; `--load FILE`, and with it `--torn` |
 //! | `upload` | `--workers W` from 1 to 16, by default 4; `--part-chunks P` from 1 to 16384, by default 64; `--journal`, `--no-progress` |
 //! | `check` | lists' names, `--quiet`, `--status`, `--ignore-missing`, `--threads T` with T from 1 to 16, `--no-progress` |
 //! | `audit` | |
@@ -24,7 +24,7 @@ mod said;
 mod words;
 
 pub use said::{
-    AskedMode, AskedUpload, CheckOptions, DoorOptions, Fault, Input, NameList, Options, SumInputs,
-    SumOptions,
+    AskedMode, AskedUpload, CheckOptions, DoorOptions, Fault, Input, LogOptions, NameList, Options,
+    ServeOptions, SumInputs, SumOptions,
 };
 pub use words::options;

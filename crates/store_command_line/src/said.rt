@@ -114,6 +114,24 @@ pub struct DoorOptions<'a> {
     pub keep_uploads: bool,
 }
 
+/// A log whose lines are run before the first client is served.
+#[derive(Clone, Copy, Debug)]
+pub struct LogOptions<'a> {
+    /// The path of its file.
+    pub path: &'a str,
+    /// Whether a last line that is truncated is left out.
+    pub torn: bool,
+}
+
+/// What a store has at first, and whom it serves.
+#[derive(Clone, Copy, Debug)]
+pub struct ServeOptions<'a> {
+    /// The log that is run on it, if any.
+    pub log: Option<LogOptions<'a>>,
+    /// How clients connect, if a named pipe is given.
+    pub door: Option<DoorOptions<'a>>,
+}
+
 /// A subcommand with its options.
 #[derive(Drop)]
 pub enum Options<'a> {
@@ -121,8 +139,8 @@ pub enum Options<'a> {
     Sum(SumOptions<'a>),
     /// `run`.
     Run,
-    /// `serve`, also for clients if a named pipe is given.
-    Serve(Option<DoorOptions<'a>>),
+    /// `serve`.
+    Serve(ServeOptions<'a>),
     /// `upload`.
     Upload(AskedUpload),
     /// `check`.

@@ -6,7 +6,7 @@ ghost use Rattle.clap.specs.Words.{all_of, found_of, first_of, one_of, rows_of, 
 ghost use Rattle.b3_check.specs.Names.{IsName};
 ghost use Rattle.store_command_line.specs.CommandLine.{IsTaken, command_line, max_threads};
 ghost use Rattle.store_command_line.specs.Ranges.{AreNamed, AreWithin, InRange, IsDoorInRange, IsSumInRange, IsWithin};
-ghost use Rattle.store_command_line.specs.Stated.{IsFaultAt, IsNotUsage, IsNumber, NamesInput, Says, SaysCheck, SaysDoor};
+ghost use Rattle.store_command_line.specs.Stated.{IsFaultAt, IsNotUsage, IsNumber, NamesInput, Says, SaysCheck, SaysDoor, SaysLog, SaysServe};
 ghost use Rattle.store_command_line.specs.Stated.{SaysFlag, SaysLists, SaysInputs, SaysMode, SaysName, SaysShown, SaysSum, SaysUpload};
 ghost use Rattle.store_command_line.specs.Stated.{SaysNumber, SpellsOr};
 ghost use Rattle.store_command_line.specs.inner.Faults.{IsNoUsage, IsNoVersion, ReportsKind};
@@ -14,6 +14,7 @@ ghost use Rattle.store_command_line.specs.declared.said.AskedMode.{AskedMode as 
 ghost use Rattle.store_command_line.specs.declared.said.AskedUpload.{AskedUpload as SaidUpload};
 ghost use Rattle.store_command_line.specs.declared.said.CheckOptions.{CheckOptions as SaidCheck};
 ghost use Rattle.store_command_line.specs.declared.said.DoorOptions.{DoorOptions as SaidDoor};
+ghost use Rattle.store_command_line.specs.declared.said.ServeOptions.{ServeOptions as SaidServe};
 ghost use Rattle.store_command_line.specs.declared.said.Fault.TheVariants.{NoMemory, Usage};
 ghost use Rattle.store_command_line.specs.declared.said.SumInputs.{SumInputs as SaidInputs};
 ghost use Rattle.store_command_line.specs.declared.said.Options.{Options as Said};
@@ -21,8 +22,8 @@ ghost use Rattle.store_command_line.specs.declared.said.SumOptions.{SumOptions a
 
 use crate::command::program;
 use crate::said::{
-    AskedMode, AskedUpload, CheckOptions, DoorOptions, Fault, Input, NameList, Options, SumInputs,
-    SumOptions,
+    AskedMode, AskedUpload, CheckOptions, DoorOptions, Fault, Input, LogOptions, NameList, Options,
+    ServeOptions, SumInputs, SumOptions,
 };
 use b3_check::{ReportOptions, Shown};
 use clap::error::ErrorKind;
@@ -409,6 +410,30 @@ fn door<'a>(alloc: Global, found: &ArgMatches<'a>) -> Result<Option<DoorOptions<
     }))
 }
 
+// The log that is run first, if one is given.
+fn log<'a>(found: &ArgMatches<'a>) -> Option<LogOptions<'a>>
+    ensures { let rows = rows_of (found_of found.now) in SaysLog result (first_of (codes "load") rows) (one_of (codes "torn") rows) }
+{
+    let path = text_of(found, "load")?;
+    Some(LogOptions {
+        path,
+        torn: flag(found, "torn"),
+    })
+}
+
+fn serve_options<'a>(alloc: Global, found: &ArgMatches<'a>) -> Result<ServeOptions<'a>, Fault>
+    ensures says { IfOk result (λ o. SaysServe o (rows_of (found_of found.now))) }
+    ensures range { IfOk result (λ o. IsDoorInRange o.door) }
+    ensures only { (o : SaidServe) → SaysServe o (rows_of (found_of found.now)) → IsDoorInRange o.door → IsNotUsage result }
+    ensures no_version { IfErr result IsNoVersion }
+{
+    let door = door(alloc, found)?;
+    Ok(ServeOptions {
+        log: log(found),
+        door,
+    })
+}
+
 // The given subcommand and its arguments.
 fn entered<'a, 'b>(matches: &'b ArgMatches<'a>) -> Option<(&'a str, &'b ArgMatches<'a>)>
     ensures { option_map (λ p. (p.0.now, rows_of (found_of p.1.now))) result ≡ subcommand_rows_of matches.now }
@@ -426,7 +451,7 @@ fn options_of<'a>(alloc: Global, matches: &ArgMatches<'a>) -> Result<Options<'a>
     match entered(matches) {
         Some(("sum", found)) => Ok(Options::Sum(sum_options(alloc, found)?)),
         Some(("run", _)) => Ok(Options::Run),
-        Some(("serve", found)) => Ok(Options::Serve(door(alloc, found)?)),
+        Some(("serve", found)) => Ok(Options::Serve(serve_options(alloc, found)?)),
         Some(("upload", found)) => Ok(Options::Upload(upload_options(alloc, found)?)),
         Some(("check", found)) => Ok(Options::Check(check_options(alloc, found)?)),
         Some(("audit", _)) => Ok(Options::Audit),
