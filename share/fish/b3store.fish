@@ -33,6 +33,8 @@ complete -c b3store -n "__fish_seen_subcommand_from upload" -l help -d 'Print he
 complete -c b3store -n "__fish_seen_subcommand_from serve" -l at -r -F -d 'Named pipe for new clients'
 complete -c b3store -n "__fish_seen_subcommand_from serve" -l sessions -r -d 'Clients served at a time'
 complete -c b3store -n "__fish_seen_subcommand_from serve" -l keep-uploads -d 'Keep the open uploads of a client that ends'
+complete -c b3store -n "__fish_seen_subcommand_from serve" -l load -r -F -d 'Log to run first'
+complete -c b3store -n "__fish_seen_subcommand_from serve" -l torn -d 'Leave out a truncated last line of the log'
 complete -c b3store -n "__fish_seen_subcommand_from serve" -l help -d 'Print help'
 
 complete -c b3store -n "__fish_seen_subcommand_from run" -l help -d 'Print help'

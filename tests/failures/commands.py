@@ -12,7 +12,8 @@ ABC, EMPTY = address_of(b"abc"), address_of(b"")
 KEY = bytes(range(32))
 LINES = f"{ABC}  abc\n{EMPTY}  empty\n".encode()
 LIST = b"abc\nempty\n"
-FILES = {"abc": b"abc", "empty": b"", "key": KEY, "lines": LINES, "list": LIST}
+LOG = b"tenant 9\nfileas 0 %s 3\nabclimit 0 3\n" % ABC.encode()
+FILES = {"abc": b"abc", "empty": b"", "key": KEY, "lines": LINES, "list": LIST, "log": LOG}
 CANNOT_READ = b"b3store: cannot read\n"
 SIGNED = b"b3store: a number is decimal digits, without a sign; see b3store sum --help\n"
 VERSION = b"b3store 1.0.0 (proved with a Rattle kit of logic dac8208d650f15bf)\n"
@@ -98,6 +99,7 @@ def cases(program):
     yield case(["run"], SCRIPT, run, lambda number: [stopped(*script_answers(number - 1))])
     output, status = session_of(SESSION)
     yield case(["serve"], SESSION, Answer(status, output), lambda number: [stopped(answers_within(SESSION, number - 1))])
+    yield case(["serve", "--load", "log"], b"", Answer(0, b""), nothing_read)
     for word, answer_of in ANSWERS.items():
         output, status = answer_of(JOURNAL)
         yield case([word], JOURNAL, Answer(status, output))

@@ -63,7 +63,7 @@ def may_end(run, whole, case):
     status, _, stderr = whole
     if (run.returncode, run.stderr) == (status, stderr) and case.may_answer(run.stdout):
         return True
-    return run.returncode == 3 and run.stderr == TELLS and case.may_have_written(run.stdout)
+    return run.returncode == 3 and run.stderr == TELLS and case.may_have_written(run.stdout) or case.may_end(run)
 
 
 def growths_of(refusing, case):

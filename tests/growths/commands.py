@@ -1,5 +1,6 @@
 """The commands that tests/growths runs, each with its input and with its answer where no growth is refused, which the second
 reading gives."""
+import re
 import typing
 
 from blake3 import address_of, keyed, output_of
@@ -17,7 +18,8 @@ LONG_ADDRESS = "8516f8a0ae9a7a21cdd69df13aaa9b2a22a499848fb3185cea4cae496ce4d91a
 KEY = bytes(range(32))
 DOOR = "door"
 """A named pipe, at which no client comes."""
-FILES = {"object": OBJECT, "abc": b"abc", "key": KEY}
+LOG = b"tenant 4096\nfileas 0 %s 2049\n%stenant 5\nfileas 0 %s 3\nabcforget 0 %s\nlimit 0 3000\n" % (ADDRESS.encode(), OBJECT, *[address_of(b"abc").encode()] * 2)
+FILES = {"object": OBJECT, "abc": b"abc", "key": KEY, "log": LOG}
 FROB = b"error: unexpected argument '--frob' found\n"
 HELP = b"Hash and check files, and serve a store that keeps each content once, in memory, until its process ends\n\nUsage: "
 SIGNED = b"b3store: a number is decimal digits, without a sign; see b3store sum --help\n"
@@ -84,6 +86,8 @@ class Case(typing.NamedTuple):
     may_have_written: typing.Callable
     may_answer: typing.Callable = lambda answer: False
     refusal: bytes = b""
+    may_end: typing.Callable = lambda run: False
+    """Whether it may also end so."""
 
 
 def is_beginning_by_the_model(answer):
@@ -127,6 +131,12 @@ def wrote_nothing(answer):
 def lines_of(text):
     """Whether an answer is some of the first lines of a text."""
     return lambda answer: text.startswith(answer) and answer[-1:] in (b"", b"\n")
+
+
+def stopped_in_its_log(run):
+    """Of `serve --load log`, that a line of the log was refused memory."""
+    said = re.fullmatch(rb"b3store: log: line \d+, at byte \d+, is answered: refused S14\n", run.stderr)
+    return bool(said) and (run.returncode, run.stdout) == (1, b"")
 
 
 def reported_a_refusal(answer):
@@ -173,6 +183,8 @@ def cases(program):
     yield Case([program, "run"], SCRIPT.encode(), script, is_beginning_by_the_model, refusal=b"refused S14\n")
     for words in ["serve"], ["serve", "--at", DOOR, "--sessions", "1"]:
         yield Case([program, *words], SESSION, read(session_of(SESSION)), wrote_nothing, is_by_the_model, b"refused S14\n")
+    log = read((session_of(LOG + b"list 0\n")[0][len(session_of(LOG)[0]) :], 0))
+    yield Case([program, "serve", "--load", "log"], b"list 0\n", log, wrote_nothing, lambda answer: answer == b"refused S14\n", may_end=stopped_in_its_log)
     for words, parts in (["--workers", "1"], 1), (["--workers", "3", "--part-chunks", "1"], 3):
         accounts = good(f"{ADDRESS}  -\naccepted {len(OBJECT)} {parts}\n")
         yield Case([program, "upload", *words], OBJECT, accounts, reported_a_refusal, refusal=b"refused U")
