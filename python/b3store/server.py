@@ -8,7 +8,7 @@
 
 The server starts `b3store serve --at DOOR --sessions N` with a door in a private temporary folder, and listens on a socket. Each connection is one session,
 which speaks the lines of `b3store serve`, through the session's own pipes if the client asks for them (relay.py). Up to N connections are served at a time;
-the others wait for their turn, in the order in which they came. The store lives in memory; with `--save FOLDER` the server saves it when it ends (saved.py).
+the others wait for their turn, in the order in which they came. The store lives in memory; with `--save FOLDER` the server keeps a log of it (redo_log.py).
 """
 from .programs import ENDING, end_at_once, exit_at_ending, handle_ending, signals_held
 
@@ -32,8 +32,8 @@ from typing import Callable, Deque, List, Optional, Set, TextIO, Tuple
 
 from .console import number, one_line, open_standard_files, size
 from .listening import Listener, ListenError, inherited, listen_at, more_time, notify
+from .redo_log import RedoLog, SaveError, reason_of
 from .relay import Connection
-from .saved import SavedStore, SaveError, reason_of
 from .server_store import SECONDS_OF_SILENCE, StoreProcess, remove_left_folders, status_text
 from .sessions import can_write
 from .values import MAX_SESSIONS, StoreError, half_of_memory
@@ -43,8 +43,8 @@ MAX_WAITING = 1024
 """The maximum number of connections that wait for a turn. Others stay in the queues of the listening sockets."""
 MAX_READS = 16
 """How often more is read from a client that is sent `busy`."""
-MAX_SAVES = 3
-"""How often a store is saved that is changed meanwhile."""
+SYNCS = {"always": 0.02, "second": 1.0, "no": 1.0}
+"""How many seconds are between two looks at what the log doesn't have yet."""
 SECONDS_TO_CUT = 2.0
 """How long the sessions of connections that are ended by the server may take to execute the commands that they have read."""
 SECONDS_FOR_LAST = 30.0
@@ -183,8 +183,8 @@ def send_busy(connection: socket.socket) -> None:
 class Server:
     """The loop that accepts connections, until a signal or the end of the store."""
 
-    def __init__(self, store: StoreProcess, listeners: List[Listener], options: argparse.Namespace, saved: Optional[SavedStore]) -> None:
-        self._store, self._listeners, self._options, self._saved = store, listeners, options, saved
+    def __init__(self, store: StoreProcess, listeners: List[Listener], options: argparse.Namespace, log: Optional[RedoLog]) -> None:
+        self._store, self._listeners, self._options, self._log = store, listeners, options, log
         self._connections, self._more_time = Connections(store, options), more_time()
         self._deadline: Optional[float] = None
         """While no clients are let in: when those that are served are ended at the latest."""
@@ -201,7 +201,15 @@ class Server:
         self._selector.register(self._signals, selectors.EVENT_READ)
         for listener in listeners:
             listener.socket.setblocking(False)
+        if log is not None:
+            _thread.start_new_thread(self._follow, (log,))
         self._let_in()
+
+    def _follow(self, log: RedoLog) -> None:
+        """Appends to the log what clients change, until the process ends."""
+        while True:
+            time.sleep(SYNCS[self._options.sync])
+            log.follow(self._store)
 
     def run(self) -> int:
         """Serves, and returns the exit status."""
@@ -229,14 +237,14 @@ class Server:
 
     def _lost(self) -> str:
         """What is lost with the store."""
-        return "everything in it is lost" + (", except for the last save" if self._saved else "")
+        return "everything in it is lost" + (", except for what its log has" if self._log else "")
 
     def _end(self) -> Optional[int]:
         """Ends the store, and returns the exit status; None if clients are served again, since the store can't be saved."""
         cut = self._connections.count()
         if cut:
             report(f"the server ends while {cut} {'connection is' if cut == 1 else 'connections are'} open")
-        is_saved = self._saved is None or self._save(self._saved)
+        is_saved = self._log is None or self._save(self._log)
         if not is_saved and self._keeps_running():
             return None
         status = self._store.close()
@@ -258,12 +266,12 @@ class Server:
         self._let_in()
         return True
 
-    def _save(self, saved: SavedStore) -> bool:
+    def _save(self, log: RedoLog) -> bool:
         """Ends the clients, tries to save the store, and returns whether it is saved. A signal doesn't interrupt it."""
         self._connections.end_all(self._more_time)
         self._store.timed.ends_since = time.monotonic()
         try:
-            text = self._saved_text(saved)
+            text = log.finish(self._store, self._more_time)
         except SaveError as error:
             report(str(error))
             return False
@@ -272,18 +280,6 @@ class Server:
             return False
         write_line(sys.stdout, f"saved {text}")
         return True
-
-    def _saved_text(self, saved: SavedStore) -> str:
-        """Saves the store, again if it is changed meanwhile, and returns what the save has."""
-        with self._store.own_session() as session:
-            for _ in range(MAX_SAVES):
-                entries = session.counts().entries
-                text = saved.save(session, self._more_time)
-                if session.counts().entries == entries:
-                    break
-            else:
-                report("clients that keep their pipes have changed the store while it was saved: the save may not have all of that")
-        return text
 
     def _read_signals(self) -> None:
         asked = sum(number in ENDING for number in self._signals.recv(64))
@@ -306,7 +302,7 @@ class Server:
         self._deadline = time.monotonic() + self._options.grace
         for listener in self._listeners:
             self._selector.unregister(listener.socket)
-            if self._saved is None:
+            if self._log is None:
                 listener.close()
         self._connections.close_waiting(math.inf)
 
@@ -338,7 +334,8 @@ def read_words() -> argparse.Namespace:
     seconds = number(0, 86400, float)
     add("--wait", metavar="SECONDS", type=seconds, default=10, help="send `busy` to a connection that has waited this long for its turn (default 10)")
     add("--grace", metavar="SECONDS", type=seconds, default=10, help="after SIGTERM, wait this long for open connections to end (default 10)")
-    add("--save", metavar="FOLDER", help="at the start, restore the store that is saved in FOLDER; after SIGTERM, save it there, and serve on while that fails")
+    add("--save", metavar="FOLDER", help="at the start, restore the store from the log in FOLDER; append each change to it within a second")
+    add("--sync", choices=tuple(SYNCS), default="second", help="sync the log each second (default), 50 times a second, or only at the end (no)")
     add("--memory", metavar="SIZE", type=size, default=half_of_memory(), help="limit the store's memory, as 512M or 4G (default: half of the machine's)")
     add("--keep-uploads", action="store_true", help="when a connection ends, leave the uploads that it began open")
     words = parser.parse_args()
@@ -379,7 +376,7 @@ def serve(words: argparse.Namespace) -> int:
     raise_file_limit(words.sessions)
     threading.stack_size(STACK)
     with contextlib.ExitStack() as ending:
-        saved = ending.enter_context(contextlib.closing(SavedStore(words.save, more_time()))) if words.save else None
+        log = RedoLog(words.save, report, words.sync != "no") if words.save else None
         listeners = open_listeners(words, ending)
         with contextlib.suppress(OSError):
             remove_left_folders()
@@ -387,12 +384,11 @@ def serve(words: argparse.Namespace) -> int:
             store = StoreProcess()
             ending.callback(store.close)
         store.start(words.program, words.sessions, words.memory)
-        if saved is not None:
-            with store.own_session() as session:
-                text = saved.restore(session, more_time())
+        if log is not None:
+            text = log.restore(store, more_time())
             if text is not None:
                 write_line(sys.stdout, f"restored {text}")
-        server = Server(store, listeners, words, saved)
+        server = Server(store, listeners, words, log)
         ending.callback(signal.set_wakeup_fd, -1)
         for listener in listeners:
             write_line(sys.stdout, f"listening on {listener.name}")

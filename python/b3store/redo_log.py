@@ -1,0 +1,493 @@
+"""A folder that has a log of the store, from which a server restores it (`--save FOLDER`).
+
+The file `log` has lines of a session, as the store gives them for `redo` (docs/COMMANDS.md): run by a session of an empty store, they restore the tenants,
+their limits, the objects and their holders. The server appends what was changed since the last time, and syncs that. A log of which the store has less than
+half is written anew to `log.new`, which then replaces it. The file `clean` is there if the server has ended after a signal, and the log has everything.
+
+The folder must belong to the server's user, and no other user may write to it. Its files are opened by its descriptor, and no link in it is followed."""
+import collections
+import contextlib
+import itertools
+import math
+import os
+import re
+import stat
+import threading
+import time
+from typing import BinaryIO, Callable, Deque, NamedTuple, Optional, Set, Tuple
+
+from .console import count_text
+from .files import FolderInUse, create_anew, lock_folder, opener_in
+from .server_store import StoreProcess
+from .sessions import Session
+from .values import Counts, Refused, StoreError
+
+LOG = "log"
+NEW_LOG = "log.new"
+CLEAN = "clean"
+IGNORED = frozenset((NEW_LOG, CLEAN, "lost+found"))
+"""Names that a folder without a log may have: what a server that was killed leaves, and what a new file system has."""
+LINE = re.compile(rb"(?:tenant [0-9]{1,20}|limit [0-9]{1,20} [0-9]{1,20}|forget [0-9]{1,20} [0-9a-f]{64}|fileas [0-9]{1,20} [0-9a-f]{64} ([0-9]{1,14}))\n")
+WORDS = (b"tenant ", b"limit ", b"forget ", b"fileas ")
+DONE = ("tenant", "ok", "new", "known")
+"""The first words of answers to lines that were run."""
+MAX_LINE_LEN = 1 << 8
+LINE_LEN = 88
+"""About how long a line of a log is."""
+PIECE_LEN = 1 << 20
+MAX_AHEAD = 40
+"""How many lines are sent before the first one's answer is read. Their answers fit into the smallest pipe, of 4096 bytes: Linux gives such ones to a user who
+has many."""
+COUNTS = (1 << 12, 1 << 6, 1)
+"""How many entries are redone at once: fewer if the store has no memory for more."""
+SYNC_LEN = 1 << 28
+"""How many bytes are written between two syncs."""
+MIN_REPLACED_LEN = 1 << 20
+"""The length of a log that isn't written anew."""
+SECONDS_OF_WRITING = 1.0
+"""For how long a log is written anew before the old one is extended again."""
+SECONDS_BETWEEN_TRIES = 60.0
+"""How long after a log couldn't be written anew this is tried again."""
+MAX_ROUNDS = 3
+"""How often a store is saved that is changed meanwhile."""
+ERRORS = (OSError, StoreError, MemoryError)
+"""What can fail."""
+
+Tick = Callable[[], None]
+"""Is called again and again while there is progress."""
+
+
+class SaveError(StoreError):
+    """A folder can't be used, or a store can't be saved in it or restored from it."""
+
+
+class Folder(NamedTuple):
+    """An open folder."""
+
+    path: str
+    number: int
+    """Its descriptor."""
+
+    def open(self, name: str, mode: str = "rb", buffering: int = -1) -> BinaryIO:
+        """Opens one of its files."""
+        return open(name, mode, buffering, opener=opener_in(self.number))  # type: ignore[return-value]
+
+    def names(self) -> Set[str]:
+        """The names of its files."""
+        return set(os.listdir(self.number))
+
+    def status(self, name: str) -> os.stat_result:
+        """The status of a file. Raises OSError, and SaveError for a link and anything else that is no file."""
+        found = os.stat(name, dir_fd=self.number, follow_symlinks=False)
+        if not stat.S_ISREG(found.st_mode):
+            raise SaveError(f"{self.path}/{name} is not a file; nothing was changed")
+        return found
+
+
+class LogFile:
+    """A log that is open, and up to which entry of the store it goes."""
+
+    def __init__(self, file: BinaryIO) -> None:
+        self._file = file
+        self.length, self.entry = self._synced = 0, 0
+        self._room = memoryview(bytearray(PIECE_LEN))
+
+    def status(self) -> os.stat_result:
+        return os.fstat(self._file.fileno())
+
+    def close(self) -> None:
+        self._file.close()
+
+    def begin(self, length: int, entry: int) -> int:
+        """Goes on after the bytes that were restored, and removes others. Returns how many these were."""
+        torn = self.status().st_size - length
+        if torn:
+            os.ftruncate(self._file.fileno(), length)
+        os.fsync(self._file.fileno())
+        self.length, self.entry = self._synced = length, entry
+        return torn
+
+    def extend(self, store: StoreProcess, target: int, tick: Tick, end: float = math.inf) -> bool:
+        """Appends the lines that redo the entries up to number `target`, and maybe further ones. False if there wasn't enough time. After an error the log goes
+        as far as at the last sync; the bytes after that are removed here before others are written."""
+        try:
+            if self.entry < target and self.status().st_size > self.length:
+                os.ftruncate(self._file.fileno(), self.length)
+            while self.entry < target and time.monotonic() < end:
+                self._append(store, tick)
+                if self.length - self._synced[0] >= SYNC_LEN:
+                    self.sync()
+            return self.entry >= target
+        except BaseException:
+            self._go_back()
+            raise
+
+    def sync(self, is_needed: bool = True) -> None:
+        """Syncs what was written since the last time. If that fails, it has to be written again: the system may have dropped it."""
+        if self._synced == (self.length, self.entry):
+            return
+        try:
+            if is_needed:
+                os.fdatasync(self._file.fileno())
+        except OSError:
+            self._go_back()
+            raise
+        self._synced = self.length, self.entry
+
+    def _go_back(self) -> None:
+        self.length, self.entry = self._synced
+        with contextlib.suppress(OSError):
+            os.ftruncate(self._file.fileno(), self.length)
+
+    def _append(self, store: StoreProcess, tick: Tick) -> None:
+        """Appends one answer of the store."""
+        for count in COUNTS:
+            try:
+                with store.own_session() as session:
+                    next_entry, end, fault = session._in_turn(lambda session, count=count: self._copy(session, count, tick))  # type: ignore[misc]
+                break
+            except Refused:
+                if count == COUNTS[-1]:
+                    raise
+        if fault is not None:
+            raise fault
+        if next_entry <= self.entry:
+            raise SaveError(f"the store doesn't redo entry {self.entry}")
+        self.length, self.entry = end, next_entry
+
+    def _copy(self, session: Session, count: int, tick: Tick) -> Tuple[int, int, Optional[OSError]]:
+        """Writes an answer's bytes to the end of the file. Returns the next entry, where the bytes end, and why they can't be written: all are read, as others
+        use the session too."""
+        next_entry, length = map(int, session.ask("redo", f"redo {self.entry} {count}"))
+        at, end, fault = self.length, self.length + length, None
+        while at < end:
+            piece = self._room[: end - at]
+            session.content_into([str(len(piece))], piece, len(piece))
+            try:
+                if fault is None:
+                    write_at(self._file.fileno(), piece, at)
+            except OSError as error:
+                fault = error
+            at += len(piece)
+            tick()
+        return next_entry, end, fault
+
+
+class RedoLog:
+    """A folder that is locked until the process ends, and the log in it."""
+
+    def __init__(self, path: str, report: Callable[[str], None], syncs: bool = True) -> None:
+        """Opens a folder, which is made if there is none. Raises SaveError, and changes nothing, if another server has it, or if it has other files and no
+        log."""
+        self._report, self._syncs = report, syncs
+        self._folder = open_folder(path)
+        self._lock = threading.Lock()
+        self._is_finished = self._is_folder_synced = False
+        self._new: Optional[LogFile] = None
+        self._next_try, self._factor = -math.inf, 1.0
+        self._fault: Optional[str] = None
+        """What was reported last, if the log can't be written."""
+        try:
+            self._open()
+        except (OSError, MemoryError) as error:
+            raise SaveError(f"cannot use the folder {path}: {reason_of(error)}") from None
+
+    def _open(self) -> None:
+        """Opens the log, or makes one. A folder that can't be written to is noticed here."""
+        names = self._folder.names()
+        if LOG not in names:
+            check_unused(self._folder, "no saved store: name a folder that is empty or doesn't exist")
+            create_anew(self._folder.number, LOG).close()
+        status = self._folder.status(LOG)
+        self._is_clean = CLEAN in names or not status.st_size
+        self._log = LogFile(self._folder.open(LOG, "r+b", 0))
+        create_anew(self._folder.number, NEW_LOG).close()
+        os.unlink(NEW_LOG, dir_fd=self._folder.number)
+
+    def restore(self, store: StoreProcess, tick: Tick) -> Optional[str]:
+        """Restores the store into a new one, and returns what it has; None if it has nothing. Removes an incomplete line at the log's end. Raises SaveError;
+        then nothing was changed."""
+        path = f"{self._folder.path}/{LOG}"
+        try:
+            with store.own_session() as session, self._folder.open(LOG) as file:
+                length = session._in_turn(lambda session: run_lines(session, file, path, tick))
+                counts, usages = session.counts(), session.tenants().values()
+            torn = self._log.begin(length, counts.entries)
+            for name in NEW_LOG, CLEAN:
+                with contextlib.suppress(FileNotFoundError):
+                    os.unlink(name, dir_fd=self._folder.number)
+        except SaveError:
+            raise
+        except ERRORS as error:
+            raise SaveError(f"the store that is saved in {path} can't be restored: {reason_of(error)}") from None
+        if torn:
+            self._report(f"{path} ended within a line: its last {count_text(torn, 'byte')} {'is' if torn == 1 else 'are'} removed")
+        # objects of several holders are in the log several times
+        self._factor = max(1.0, (sum(usage.used for usage in usages) + 1) / (counts.bytes + 1))
+        return (counts_text(counts) + ("" if self._is_clean else "; the last server was killed")) if counts.tenants else None
+
+    def follow(self, store: StoreProcess) -> None:
+        """Appends what was changed, and writes the log anew for some time if that pays. What fails is reported once."""
+        with self._lock:
+            if self._is_finished:
+                return
+            try:
+                counts = self._append(store, lambda: None)
+                if self._fault is not None:
+                    self._report(f"the log in {self._folder.path} is written again")
+                self._fault = None
+            except Exception as error:  # whatever it is, the store is served
+                self._note(f"the log in {self._folder.path} can't be written: {reason_of(error)}", store)
+                return
+            try:
+                if self._new is not None or self._pays(counts):
+                    self._write_anew(store, counts, lambda: None, time.monotonic() + SECONDS_OF_WRITING)
+            except Exception as error:
+                self._next_try = time.monotonic() + SECONDS_BETWEEN_TRIES
+                self._note(f"the log in {self._folder.path}, which is long, can't be written anew: {reason_of(error)}", store)
+
+    def _note(self, fault: str, store: StoreProcess) -> None:
+        """Reports a fault, unless it is the last one that was reported, or the store has ended."""
+        if fault != self._fault and store.is_usable():
+            self._report(f"{fault}; the server tries again")
+            self._fault = fault
+
+    def finish(self, store: StoreProcess, tick: Tick) -> str:
+        """Appends what was changed, as the server ends, and returns what the store has. Raises SaveError; then the log is followed again."""
+        with self._lock:
+            try:
+                for _ in range(MAX_ROUNDS):
+                    self._append(store, tick)
+                    counts = counts_of(store)
+                    if counts.entries <= self._log.entry:
+                        break
+                else:
+                    self._report("clients that keep their pipes have changed the store while it was saved: the log may not have all of that")
+                self._drop_new()
+                create_anew(self._folder.number, CLEAN).close()
+                self._sync_folder()
+                path = self._find()
+            except ERRORS as error:
+                raise SaveError(f"the store can't be saved in {self._folder.path}, which has what was saved before: {reason_of(error)}") from None
+            self._is_finished = True
+            return counts_text(counts) + path
+
+    def _append(self, store: StoreProcess, tick: Tick) -> Counts:
+        """Appends all that was changed until now, and returns what the store had then. A log that was removed, replaced or truncated is written anew."""
+        counts = counts_of(store)
+        if not self._is_in_place():
+            self._drop_new()
+            self._find()
+            self._write_anew(store, counts, tick)
+        if not self._is_folder_synced:
+            self._sync_folder()
+        self._log.extend(store, counts.entries, tick)
+        self._log.sync(self._syncs)
+        return counts
+
+    def _is_in_place(self) -> bool:
+        """Whether the log is still the one that the server writes."""
+        try:
+            found = self._folder.status(LOG)
+        except (OSError, SaveError):
+            return False
+        return os.path.samestat(found, self._log.status()) and found.st_size >= self._log.length
+
+    def _find(self) -> str:
+        """Finds the folder that is locked, and returns where it is if it was moved: another one that has its path may be in use. If it was removed, one is made
+        and locked."""
+        path, number = self._folder
+        if is_at(number, path):
+            return ""
+        moved = os.readlink(f"/proc/self/fd/{number}")
+        if is_at(number, moved):
+            return f" in {moved}"
+        self._folder = open_folder(path, "is not the folder that the server had locked, which was removed: nothing is saved")
+        os.close(number)
+        return ""
+
+    def _pays(self, counts: Counts) -> bool:
+        """Whether the log is more than twice as long as a new one would be."""
+        return time.monotonic() >= self._next_try and self._log.length > max(MIN_REPLACED_LEN, 2 * self._factor * least_len(counts))
+
+    def _write_anew(self, store: StoreProcess, counts: Counts, tick: Tick, end: float = math.inf) -> None:
+        """Writes a new log until it has all that the store had, and puts it in place of the old one; or writes some of it."""
+        try:
+            if self._new is None:
+                self._new = LogFile(create_anew(self._folder.number, NEW_LOG))
+            if not self._new.extend(store, max(counts.entries, self._log.entry), tick, end):
+                return
+            self._new.sync()
+            os.replace(NEW_LOG, LOG, src_dir_fd=self._folder.number, dst_dir_fd=self._folder.number)
+        except BaseException:
+            self._drop_new()
+            raise
+        self._log.close()
+        self._log, self._new, self._is_folder_synced = self._new, None, False
+        self._factor = max(1.0, self._log.length / least_len(counts))
+        self._sync_folder()
+
+    def _sync_folder(self) -> None:
+        """Syncs the folder. Until that succeeds, what is appended isn't safe: after a crash of the machine the log before may be back."""
+        os.fsync(self._folder.number)
+        self._is_folder_synced = True
+
+    def _drop_new(self) -> None:
+        """Removes a log that is being written anew."""
+        if self._new is not None:
+            self._new.close()
+            self._new = None
+            with contextlib.suppress(OSError):
+                os.unlink(NEW_LOG, dir_fd=self._folder.number)
+
+
+def counts_of(store: StoreProcess) -> Counts:
+    with store.own_session() as session:
+        return session.counts()
+
+
+def counts_text(counts: Counts) -> str:
+    """Says how much a store has."""
+    return f"{count_text(counts.objects, 'object')} and {count_text(counts.tenants, 'tenant')}"
+
+
+def least_len(counts: Counts) -> int:
+    """About how long a new log is, if each object has one holder."""
+    return counts.bytes + LINE_LEN * (counts.objects + counts.tenants + 1)
+
+
+def write_at(file: int, content: memoryview, at: int) -> None:
+    """Writes bytes to a place of a file."""
+    while content.nbytes:
+        count = os.pwrite(file, content, at)
+        content, at = content[count:], at + count
+
+
+def run_lines(session: Session, log: BinaryIO, path: str, tick: Tick) -> int:
+    """Runs the lines of a log by a session of an empty store, and returns their length, without an incomplete line at the end. Raises SaveError for a line that
+    is wrong or refused, but not for a `forget` of an object that is missing."""
+    size, at = os.fstat(log.fileno()).st_size, 0
+    sent: Deque[Tuple[int, int]] = collections.deque()
+    """The lines whose answers are due: the number of each, and where it begins."""
+
+    def wrong(number: int, start: int, fault: str) -> SaveError:
+        return SaveError(f"{path}: line {number}, at byte {start}, {fault}; nothing was changed; `truncate -s {start}` would keep the lines before it")
+
+    def check_answer() -> None:
+        words = session.line()
+        place = sent.popleft()
+        if words[0] not in DONE and words[:2] != ["refused", "S12"]:
+            raise wrong(*place, f"is answered {' '.join(words)!r}")
+
+    for number in itertools.count(1):
+        line = log.readline(MAX_LINE_LEN)
+        found = LINE.fullmatch(line)
+        end = at + len(line) + int(found[1] or 0 if found else 0)
+        if not found and not (end == size and may_begin(line)):
+            raise wrong(number, at, "is no line of a log")
+        if not found or end > size:
+            break
+        sent.append((number, at))
+        send_line(session, line, log, int(found[1] or 0), tick)
+        at = end
+        if len(sent) > MAX_AHEAD:
+            check_answer()
+    while sent:
+        check_answer()
+    return at
+
+
+def may_begin(part: bytes) -> bool:
+    """Whether a line of a log may begin with some bytes."""
+    return any(word.startswith(part) or part.startswith(word) and not part[len(word) :].strip(b"0123456789abcdef ") for word in WORDS)
+
+
+def send_line(session: Session, line: bytes, log: BinaryIO, length: int, tick: Tick) -> None:
+    """Sends a line, and the bytes that follow it in a log."""
+    piece = log.read(min(length, PIECE_LEN))
+    session.write(line, piece)
+    while len(piece) < length:
+        length -= len(piece)
+        piece = log.read(min(length, PIECE_LEN))
+        if not piece:
+            raise SaveError("the log is truncated while it is read")
+        session.write(piece)
+        tick()
+    tick()
+
+
+def reason_of(error: BaseException) -> str:
+    """Why something failed."""
+    if isinstance(error, MemoryError):
+        return "out of memory"
+    return getattr(error, "strerror", None) or str(error)
+
+
+def open_folder(path: str, fault: Optional[str] = None) -> Folder:
+    """Opens and locks a folder, which is made if there is none. Raises SaveError, also for one that another user could change, and if a fault is given, with
+    this fault for one that has files."""
+    try:
+        make_folder(path)
+        folder = Folder(path, lock_folder(path))
+    except FolderInUse as error:
+        raise SaveError(str(error)) from None
+    except OSError as error:
+        raise SaveError(f"cannot open the folder {path}: {error.strerror}") from None
+    try:
+        check_safe(folder)
+        if fault is not None:
+            check_unused(folder, fault)
+    except BaseException:
+        os.close(folder.number)
+        raise
+    return folder
+
+
+def check_safe(folder: Folder) -> None:
+    """Raises SaveError if a folder belongs to another user, or others may write to it: they could replace what is saved."""
+    found = os.fstat(folder.number)
+    if found.st_uid != os.geteuid():
+        raise SaveError(f"{folder.path} belongs to another user: name a folder of the server's user")
+    if found.st_mode & (stat.S_IWGRP | stat.S_IWOTH):
+        raise SaveError(f"{folder.path} can be written to by others: chmod go-w {folder.path}")
+
+
+def is_at(folder: int, path: str) -> bool:
+    """Whether a path names an open folder."""
+    try:
+        return os.path.samestat(os.fstat(folder), os.stat(path))
+    except OSError:
+        return False
+
+
+def check_unused(folder: Folder, fault: str) -> None:
+    """Raises SaveError if a folder has files."""
+    names = folder.names() - IGNORED
+    if names:
+        raise SaveError(f"{folder.path} holds {min(names)!r} and {fault}")
+
+
+def make_folder(path: str) -> None:
+    """Makes a folder that only this user can enter, and those above it, if there are none. Each folder that gets one is synced."""
+    missing, above = [], path.rstrip("/")
+    while above and not is_there(above):
+        missing.append(above)
+        above = os.path.dirname(above)
+    for new in reversed(missing):
+        # a/. and a/.. are there once a is
+        with contextlib.suppress(FileExistsError):
+            os.mkdir(new, 0o700 if new == missing[0] else 0o777)
+        parent = os.open(os.path.dirname(new) or ".", os.O_RDONLY | os.O_DIRECTORY)
+        try:
+            os.fsync(parent)
+        finally:
+            os.close(parent)
+
+
+def is_there(path: str) -> bool:
+    """Whether there is a file. Raises OSError if a path can't be followed."""
+    try:
+        os.stat(path)
+    except FileNotFoundError:
+        return False
+    return True
