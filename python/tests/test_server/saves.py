@@ -1,4 +1,4 @@
-"""What a server saves in a folder, and what a later one restores from it."""
+"""What a server appends to its log, and what a later one restores from it."""
 import contextlib
 import hashlib
 import os
@@ -9,100 +9,84 @@ import signal
 import subprocess
 import sys
 import tempfile
+import threading
 import time
-from typing import Any, Dict, Iterator, List, Optional, Tuple
+from typing import Any, Dict, Iterator, List, Optional, Set, Tuple
 
 from judging import differences, wait_until
 from lines import SHORTLY
 from running import AS_MODULE, CLEAN, PACKAGE, SECONDS, Client, Running, environment, fails
 
 sys.path.insert(1, PACKAGE)
-from b3store.files import checked_line, lock_folder
-from b3store.saved import in_filing_order, make_folder
+from b3store.files import lock_folder
+from b3store.redo_log import RedoLog, make_folder
+from b3store.server_store import StoreProcess
 
 LENGTHS = (1, 2, 1023, 1024, 1025, 4096, 70_000)
-LONG = (1 << 20) + 5
-"""The length of an object that isn't restored with others in one turn."""
-KILLS = 12
+LONG = (5 << 20) + 5
+"""The length of an object that the store redoes alone."""
+KILLS = 20
+WRITERS = 3
 RUN_SERVER = "import runpy; runpy.run_module('b3store.server', run_name='__main__', alter_sys=True)"
-SLOW = ["-c", f"import os, time; fsync = os.fsync; os.fsync = lambda file: (time.sleep(0.03), fsync(file)); {RUN_SERVER}"]
-"""Words after `python` that run the server with a slow disk, so that a kill at a random moment meets a save."""
 STEPS = f"""
-import os, signal, sys
-from b3store.saved import SavedStore
-left, is_saving, save = [int(os.environ["STEPS"])], [], SavedStore.save
-def step(*_):
-    if is_saving:
-        left[0] -= 1
-        if left[0] < 0:
-            os.kill(os.getpid(), signal.SIGKILL)
+import os, signal
+from b3store import redo_log
+left, is_writing, write = [int(os.environ["STEPS"])], [], redo_log.RedoLog._write_anew
 def counted(call):
-    return lambda *given, **named: (step(), call(*given, **named))[1]
-def save_in_steps(*given):
-    is_saving.append(1)
+    def work(*given, **named):
+        if is_writing:
+            left[0] -= 1
+            if left[0] < 0:
+                os.kill(os.getpid(), signal.SIGKILL)
+        return call(*given, **named)
+    return work
+def write_in_steps(*given):
+    is_writing.append(1)
     try:
-        return save(*given)
+        return write(*given)
     finally:
-        is_saving.clear()
-SavedStore.save = save_in_steps
-for name in "fsync", "replace", "unlink", "listdir", "stat":
+        is_writing.clear()
+redo_log.RedoLog._write_anew = write_in_steps
+for name in "fsync", "fdatasync", "replace", "unlink", "open", "pwrite", "fstat":
     setattr(os, name, counted(getattr(os, name)))
-sys.addaudithook(lambda event, given: event == "open" and step())
 {RUN_SERVER}
 """
-"""A server that is killed in a save, once it has done as many steps with files as the variable STEPS says."""
+"""A server that is killed while it writes its log anew, once it has done as many steps with files as the variable STEPS says."""
 UNSYNCED = f"""
 import errno, os, stat
-fsync, replace, replaced = os.fsync, os.replace, []
+fsync, fdatasync, synced = os.fsync, os.fdatasync, [0]
 def sync(file):
-    if replaced and stat.S_ISDIR(os.fstat(file).st_mode):
+    if stat.S_ISDIR(os.fstat(file).st_mode) and os.path.exists(os.environ["FAILING"]):
         raise OSError(errno.EIO, os.strerror(errno.EIO))
     fsync(file)
-os.fsync, os.replace = sync, lambda *given, **named: (replaced.append(1), replace(*given, **named))
+def sync_data(file):
+    size = os.fstat(file).st_size
+    if os.path.exists(os.environ["FAILING_DATA"]):
+        # what is not synced is lost
+        os.pwrite(file, bytes(size - synced[0]), synced[0])
+        raise OSError(errno.EIO, os.strerror(errno.EIO))
+    fdatasync(file)
+    synced[0] = size
+os.fsync, os.fdatasync = sync, sync_data
 {RUN_SERVER}
 """
-"""A server that can't sync a folder in which it has replaced a file."""
-NEVER_SYNCED = UNSYNCED.replace("replaced and ", "")
-"""A server that can't sync folders at all."""
-NO_MEMORY = f"""
-import os
-from b3store import saved
-read, is_wanted = saved.read_index, eval(os.environ["WHEN"])
-def read_or_fail(folder, tick):
-    if is_wanted(folder.path):
-        raise MemoryError
-    return read(folder, tick)
-saved.read_index = read_or_fail
-{RUN_SERVER}
-"""
-"""A server that has no memory to read an index, if the function in the variable WHEN, of the folder's path, says so."""
+"""A server that can't sync folders while there is the file FAILING, nor its log while there is the file FAILING_DATA."""
 UNREADABLE = f"""
 import errno, os
+from b3store import redo_log
 def fail(*_):
     raise OSError(errno.EIO, os.strerror(errno.EIO))
-os.pread = fail
+redo_log.send_line = fail
 {RUN_SERVER}
 """
-"""A server whose disk fails."""
-MEASURED = f"""
-import os, resource
-from b3store.saved import SavedStore
-save = SavedStore.save
-def measured(*given):
-    before = resource.getrusage(resource.RUSAGE_SELF).ru_maxrss
-    try:
-        return save(*given)
-    finally:
-        with open(os.environ["GROWTH"], "w") as file:
-            file.write(str(resource.getrusage(resource.RUSAGE_SELF).ru_maxrss - before))
-SavedStore.save = measured
-{RUN_SERVER}
-"""
-"""A server that writes the KiB of memory that a save needs to the file in the variable GROWTH."""
+"""A server whose disk fails when it restores."""
+NO_MEMORY = UNREADABLE.replace("OSError(errno.EIO, os.strerror(errno.EIO))", "MemoryError")
+"""A server that has no memory to restore."""
 FORGETFUL = f"""
-from b3store import relay, server_store
+from b3store import redo_log, relay, server_store
 from b3store.sessions import Session
-relay.MAX_BEGUN, text, line, left = 4, Session.text, server_store.StoreProcess._line, [4, 1]
+redo_log.RedoLog.follow = lambda *_: None
+relay.MAX_BEGUN, text, line, left = 4, Session.text, server_store.StoreProcess._line, [7, 1]
 def text_or_fail(session):
     left[0] -= 1
     if left[0] == 0:
@@ -118,16 +102,16 @@ Session.text, server_store.StoreProcess._line = text_or_fail, line_or_fail
 """
 """A server that asks soon which uploads are open, and has no memory for one of them, and none for the next answer."""
 FULL = f"""
-from b3store import Refused
-from b3store.transfers import Transfers
-entries = Transfers.entries
-def refuse(*_):
-    raise Refused("S14")
-Transfers.objects = refuse
-Transfers.entries = lambda store, start, count: entries(store, start, count) if count < 16 else refuse()
+from b3store import Refused, redo_log
+copy = redo_log.LogFile._copy
+def copy_or_refuse(log, session, count, tick):
+    if count > 1:
+        raise Refused("S14")
+    return copy(log, session, count, tick)
+redo_log.LogFile._copy = copy_or_refuse
 {RUN_SERVER}
 """
-"""A server whose store has no memory to list its objects, nor for long pages of its journal."""
+"""A server whose store has no memory to redo several entries at once."""
 LIMITED = """
 import os, resource, sys
 from b3store import server
@@ -139,13 +123,13 @@ sys.exit(server.main())
 FAILING_ONCE = """
 import sys
 from b3store import server
-save, left = server.SavedStore.save, [1]
+finish, left = server.RedoLog.finish, [1]
 def fail_once(*given):
     left[0] -= 1
     if left[0] >= 0:
         raise KeyError("unforeseen")
-    return save(*given)
-server.SavedStore.save, server.SECONDS_BETWEEN_SAVES = fail_once, 0.5
+    return finish(*given)
+server.RedoLog.finish, server.SECONDS_BETWEEN_SAVES = fail_once, 0.5
 sys.exit(server.main())
 """
 """A server whose first save fails in an unforeseen way, and that soon tries again."""
@@ -219,6 +203,15 @@ def _fill(client: Client) -> None:
     client.ask("limit 2 78")
 
 
+def _log_of(folder: str) -> bytes:
+    return _files(folder)["log"]
+
+
+def _is_logged(folder: str, *contents: bytes) -> bool:
+    """Whether a log gets some bytes soon."""
+    return wait_until(lambda: all(content in _log_of(folder) for content in contents))
+
+
 def restores_all(program: str) -> List[str]:
     """All tenants with their numbers and limits, and all objects with their bytes, holders and order, again and again; open uploads are not saved."""
     with _folder() as folder:
@@ -227,15 +220,35 @@ def restores_all(program: str) -> List[str]:
                 _fill(client)
                 before = _state(client)
                 client.ask("begin 0 5000")
-            found = differences((len(server.lines), 1), (server.end()[:2], (0, "")), (sorted(os.listdir(folder)), ["content.1", "index"]))
+            found = differences((len(server.lines), 1), (server.end()[:2], (0, "")), (sorted(os.listdir(folder)), ["clean", "log"]))
         for number in range(3):
             with Running(program, "--save", folder) as server, server.client() as client:
-                found += differences((_state(client), before), (server.lines[0].endswith("objects and 4 tenants\n"), True))
+                found += differences((_state(client), before), (server.lines[0].endswith("objects and 4 tenants\n"), True), (os.listdir(folder), ["log"]))
                 client.file(_content(number, number), number % 2)
                 client.ask(f"forget 0 {client.file(_content(number))}")
                 before = _state(client)
                 found += differences((client.ends(), b""), (server.end(), CLEAN))
         return found + differences((_state_at(program, folder), before), (os.stat(folder).st_mode & 0o777, 0o700))
+
+
+def follows_clients(program: str) -> List[str]:
+    """What a client changes is in the log soon, for each word of --sync. The lines of the log are those of a session."""
+    found = []
+    for word in "always", "second", "no":
+        with _folder() as folder:
+            with Running(program, "--save", folder, "--sync", word) as server, server.client() as client:
+                client.ask("tenant 5000")
+                address = client.file(b"abc").encode()
+                client.ask("limit 0 6")
+                lines = b"tenant 5000\nfileas 0 " + address + b" 3\nabclimit 0 6\n"
+                found += differences((_is_logged(folder, lines), True), (_log_of(folder), lines))
+                state = _state(client)
+                server.signal(signal.SIGKILL)
+                server.status()
+            with Running(program, "--save", folder) as server:
+                found += differences((server.lines[0], "b3store.server: restored 1 object and 1 tenant; the last server was killed\n"), (server.end(), CLEAN))
+            found += differences((_state_at(program, folder), state))
+    return found + differences((fails("--program", program, "--socket", "/tmp/none", "--sync", "never")[0], 2))
 
 
 def saves_what_was_answered(program: str) -> List[str]:
@@ -274,69 +287,145 @@ def saves_while_commands_are_left(program: str) -> List[str]:
         return found + differences((kept, addresses[: len(kept) - 1] + [long]), (1 < len(kept), True))
 
 
-def only_new_contents(program: str) -> List[str]:
-    """A save writes only bytes that no file has yet. A file whose objects are mostly forgotten is replaced."""
-    with _folder() as folder:
-        with Running(program, "--save", folder) as server, server.client() as client:
-            client.ask("tenant 100000000")
-            addresses = [client.file(b"%d" % number * 300_000) for number in range(4)]
-            found = differences((client.ends(), b""), (server.end(), CLEAN))
-        first = os.stat(os.path.join(folder, "content.1"))
-        for forgotten, wanted in ((addresses[:1], ["content.1", "content.2", "index"]), (addresses[1:3], ["content.3", "index"])):
-            with Running(program, "--save", folder) as server, server.client() as client:
-                client.file(b"small")
-                for address in forgotten:
+class Writer(threading.Thread):
+    """A client that files objects and forgets most of them, until its connection ends."""
+
+    def __init__(self, server: Running, numbers: Tuple[int, ...]) -> None:
+        super().__init__()
+        self._client, self._numbers = server.client(), numbers
+        self.filed: Dict[str, float] = {}
+        """What was filed and isn't forgotten, and when it was answered."""
+        self.sent: Set[bytes] = set()
+        """The hashes of all contents."""
+        self.start()
+
+    def run(self) -> None:
+        part = 0
+        with contextlib.suppress(OSError, EOFError, IndexError), self._client as client:
+            while True:
+                part += 1
+                content = _content(*self._numbers, part) * (20_000 if part % 8 else 1)
+                self.sent.add(hashlib.sha256(content).digest())
+                self.filed[client.file(content)] = time.monotonic()
+                if len(self.filed) > 10:
+                    address = next(iter(self.filed))
+                    del self.filed[address]
                     client.ask(f"forget 0 {address}")
-                state = _state(client)
-                found += differences((client.ends(), b""), (server.end(), CLEAN), (sorted(os.listdir(folder)), wanted))
-            if "content.1" in wanted:
-                found += differences((os.stat(os.path.join(folder, "content.1")).st_mtime_ns, first.st_mtime_ns))
-        return found + differences((_state_at(program, folder), state))
 
 
-def saves_that_are_killed(program: str) -> List[str]:
-    """A server that is killed at a random moment of its end leaves the save before or the new one, whole."""
-    chance, found = random.Random(9), []
+def kills_beside_writers(program: str) -> List[str]:
+    """Whenever a server or its store is killed, what was filed more than the interval before is restored, and nothing is restored that wasn't filed or has
+    other bytes. Meanwhile the log is written anew."""
+    chance, found, anew = random.Random(9), [], 0
+    writers: List[Writer] = []
+    sent: Set[bytes] = set()
     with _folder() as folder:
-        states, seconds = [_state_at(program, folder)], 0.0
-        for number in range(KILLS + 1):
-            with Running(program, "--save", folder, python=SLOW) as server, server.client() as client:
-                if not number:
-                    client.ask("tenant 100000000")
-                for part in range(30):
-                    client.file(_content(number, part))
-                states.append(_state(client))
-                client.ends()
-                start = time.monotonic()
-                server.signal()
-                if number:
-                    time.sleep(chance.uniform(0, seconds))
-                    server.signal(signal.SIGKILL)
+        for number in range(KILLS):
+            word, seconds = ("second", 2.5) if number % 5 == 4 else ("always", 0.7)
+            with Running(program, "--save", folder, "--sync", word) as server:
+                with server.client() as client:
+                    client.ask(f"tenant {1 << 40}")
+                    restored = [row.split()[0].decode() for row in client.ask("list 0").splitlines()[1:]]
+                    contents = [client.ask(f"fetchb 0 {address}").partition(b"\n")[2] for address in restored]
+                    found += [f"an object is wrong after kill {number}" for content in contents if hashlib.sha256(content).digest() not in sent]
+                    for address in restored:
+                        client.ask(f"forget 0 {address}")
+                missing = {address for writer in writers for address, at in writer.filed.items() if at < killed - late} - {*restored}
+                found += [f"{len(missing)} objects are missing after kill {number}"] if missing else []
+                inode = os.stat(f"{folder}/log").st_ino
+                writers = [Writer(server, (number, writer)) for writer in range(WRITERS)]
+                time.sleep(seconds + chance.uniform(0, 1))
+                killed, late = time.monotonic(), seconds
+                os.kill(server.store() if number % 3 == 2 else server.process.pid, signal.SIGKILL)
                 server.status()
-                seconds = seconds or time.monotonic() - start
-            now = _state_at(program, folder)
-            found += differences((now in states[-2:], True))
-            states.append(now)
+                for writer in writers:
+                    writer.join(SECONDS)
+                    sent |= writer.sent
+                anew += os.stat(f"{folder}/log").st_ino != inode
+    return found[:5] + differences((anew > 2, True), (len(sent) > KILLS * WRITERS, True))
+
+
+def writes_anew(program: str) -> List[str]:
+    """A log of which the store has less than half is written anew, while the server runs and after a restart; one that isn't long stays."""
+    with _folder() as folder:
+        with Running(program, "--save", folder, "--sync", "always") as server, server.client() as client:
+            client.ask("tenant 100000000")
+            client.ask("tenant 100000000")
+            addresses = [client.file(b"%d" % number * 300_000) for number in range(9)]
+            client.file(b"shared" * 9, 1)
+            inode = os.stat(f"{folder}/log").st_ino
+            found = differences((_is_logged(folder, b"shared" * 9), True), (os.stat(f"{folder}/log").st_ino, inode))
+            for address in addresses[:7]:
+                client.ask(f"forget 0 {address}")
+            found += differences((wait_until(lambda: os.stat(f"{folder}/log").st_size < 700_000), True), (os.listdir(folder), ["log"]))
+            late = client.file(b"late").encode()
+            state = _state(client)
+            found += differences((_is_logged(folder, late), True))
+            server.signal(signal.SIGKILL)
+            server.status()
+        log = _log_of(folder)
+        found += differences((_state_at(program, folder), state))
+        with open(f"{folder}/log", "ab") as file:
+            for number in range(30):
+                file.write(b"limit 1 %d\nfileas 1 %s 54\n%s" % (1000 + number, log.partition(b"fileas 1 ")[2][:64], b"shared" * 9) * 1000)
+        with Running(program, "--save", folder) as server:
+            found += differences((wait_until(lambda: os.stat(f"{folder}/log").st_size < 700_000), True), (server.end(), CLEAN))
     return found
 
 
-def saves_that_are_killed_at_each_step(program: str) -> List[str]:
-    """The same at each step with files, one after the other, until a save ends in fewer steps. Nothing is left of what was not finished."""
+def kills_while_written_anew(program: str) -> List[str]:
+    """A server that is killed at each step of that, one after the other, loses nothing."""
     found, statuses = [], []
     with _folder() as folder:
-        state = _state_at(program, folder)
-        while statuses[-1:] != [0] and len(statuses) < 100:
-            with Running(program, "--save", folder, python=["-c", STEPS], STEPS=str(len(statuses))) as server, server.client() as client:
-                client.ask("tenant 100000")
-                client.file(_content(len(statuses)))
-                new = _state(client)
-                client.ends()
-                server.signal()
+        while statuses[-1:] != [0] and len(statuses) < 60:
+            with Running(program, "--save", folder, "--sync", "always", python=["-c", STEPS], STEPS=str(len(statuses))) as server, server.client() as client:
+                client.ask("tenant 100000000")
+                address = client.file(bytes(2_000_000))
+                kept = client.file(_content(len(statuses)))
+                state = _state(client)
+                found += differences((_is_logged(folder, kept.encode()), True))
+                with contextlib.suppress(OSError, EOFError, IndexError):
+                    client.ask(f"forget 0 {address}")
+                    wait_until(lambda: server.process.poll() is not None or os.stat(f"{folder}/log").st_size < 1_000_000)
+                    time.sleep(SHORTLY)
+                    client.ends()
+                if server.process.poll() is None:
+                    server.signal()
                 statuses.append(server.status())
             now = _state_at(program, folder)
-            found += differences((now in (state, new), True), (len(os.listdir(folder)) <= 2, True))
-            state = now
-    return found[:5] + differences((set(statuses[:-1]), {-signal.SIGKILL}), (statuses[-1], 0), (state == new, True), (len(statuses) > 8, True))
+            gone = [line for line in state if address in line]
+            found += differences(([now[line] for line in now if kept in line], [state[line] for line in state if kept in line]), (len(os.listdir(folder)), 1))
+            found += differences((any(line in now for line in gone), False)) if statuses[-1] == 0 else []
+    return found[:5] + differences((set(statuses[:-1]), {-signal.SIGKILL}), (statuses[-1], 0), (len(statuses) > 8, True))
+
+
+SMALL = b"tenant 9\nfileas 0 6437b3ac38465133ffb63b75273a8db548c558465d79db03fd359c6cd5bd9d85 3\nabclimit 0 8\n"
+SMALL += b"forget 0 6437b3ac38465133ffb63b75273a8db548c558465d79db03fd359c6cd5bd9d85\nlimit 0 7\n"
+ENDS = [0, 9, 89, 99, 173, 183]
+"""A small log, and where its lines end."""
+
+
+def torn_ends(program: str) -> List[str]:
+    """A log that ends at any byte is restored up to its last complete line. The others are removed, which is reported, and what is appended follows."""
+    found = []
+    for length in range(len(SMALL) + 1):
+        with _folder() as folder:
+            os.mkdir(folder)
+            with open(f"{folder}/log", "wb") as file:
+                file.write(SMALL[:length])
+            reported: List[str] = []
+            log, store, whole = RedoLog(folder, reported.append), StoreProcess(), max(end for end in ENDS if end <= length)
+            try:
+                store.start(program, 1, 1 << 30)
+                log.restore(store, lambda: None)
+                told = f"{folder}/log ended within a line: its last {length - whole} byte{'s are' if length - whole > 1 else ' is'} removed"
+                found += differences((reported, [told] if length > whole else []), (_log_of(folder), SMALL[:whole]))
+                store.answer(b"tenant 5")
+                log.follow(store)
+                found += differences((_log_of(folder), SMALL[:whole] + b"tenant 5\n"))
+            finally:
+                store.close()
+    return found[:5] + differences((len(SMALL), ENDS[-1]))
 
 
 def one_server_alone(program: str) -> List[str]:
@@ -349,53 +438,35 @@ def one_server_alone(program: str) -> List[str]:
         return found + differences((_state_at(program, folder), {}))
 
 
-def contents_that_are_changed(program: str) -> List[str]:
-    """What another program does to the files while the server runs doesn't get into a save: their bytes are written again."""
+def logs_that_are_changed(program: str) -> List[str]:
+    """A log that is removed, replaced or truncated while the server runs is written anew; what another program appends is removed."""
     found = []
-    for name, change in ("content.1", lambda content: _flipped(content, 70)), ("content.1", lambda _: b""), ("index", lambda content: content):
-        with _folder() as folder:
-            with Running(program, "--save", folder) as server, server.client() as client:
-                client.ask("tenant 100000000")
-                for number in range(4):
-                    client.file(b"%d" % number * 300_000)
-                state = _state(client)
-                found += differences((client.ends(), b""), (server.end(), CLEAN))
-            with Running(program, "--save", folder) as server:
-                content = _files(folder)[name]
-                with open(os.path.join(folder, name), "wb") as file:
-                    file.write(change(content))
-                found += differences((server.end(), CLEAN), (sorted(os.listdir(folder)), ["content.2", "index"]), (_state_at(program, folder), state))
+
+    def append(path: str) -> None:
+        with open(path, "ab") as file:
+            file.write(b"another")
+
+    for change in os.unlink, lambda path: os.rename(append_to(f"{path}-other"), path), lambda path: os.truncate(path, 20), append:
+        with _folder() as folder, Running(program, "--save", folder) as server, server.client() as client:
+            client.ask("tenant 100000000")
+            for number in range(4):
+                client.file(b"%d" % number * 300_000)
+            found += differences((_is_logged(folder, b"3" * 300_000), True))
+            change(f"{folder}/log")
+            address = client.file(b"more").encode()
+            state = _state(client)
+            found += differences((wait_until(lambda: os.path.exists(f"{folder}/log")), True), (_is_logged(folder, address), True))
+            server.signal(signal.SIGKILL)
+            server.status()
+            found += differences((server.reported(), ""), (_state_at(program, folder), state))
     return found
 
 
-def contents_of_others(program: str) -> List[str]:
-    """A file with the name of a content file that another program has made, whatever its number, isn't written to, and a save beside it is restored."""
-    found = []
-    for other in "content.1", f"content.{10 ** 19 - 1}":
-        with _folder() as folder:
-            with Running(program, "--save", folder) as server, server.client() as client:
-                client.ask("tenant 100000000")
-                client.file(b"abc")
-                state = _state(client)
-                with open(os.path.join(folder, other), "wb"):
-                    pass
-                found += differences((client.ends(), b""), (server.end(), CLEAN), (_state_at(program, folder), state))
-    return found
-
-
-def contents_that_stay(program: str) -> List[str]:
-    """If a content file can't be removed, here a folder with such a name, the others that no save needs are removed, whichever comes first."""
-    found: List[str] = []
-    with _folder() as folder:
-        for number in range(3):
-            with Running(program, "--save", folder) as server, server.client() as client:
-                client.ask("tenant 100000000")
-                client.file(_content(number))
-                found += differences((client.ends(), b""), (server.end(), CLEAN))
-            if not number:
-                for other in range(100, 120):
-                    os.mkdir(os.path.join(folder, f"content.{other}"))
-        return found + differences((len(os.listdir(folder)), 22))
+def append_to(path: str) -> str:
+    """Makes a file of some bytes."""
+    with open(path, "wb") as file:
+        file.write(b"another")
+    return path
 
 
 def folders_that_are_moved(program: str) -> List[str]:
@@ -405,15 +476,17 @@ def folders_that_are_moved(program: str) -> List[str]:
             client.ask("tenant 100000")
             client.file(b"first")
             state = _state(client)
-            client.ends()
             os.rename(folder, f"{folder}-moved")
+            client.file(b"moved")
+            state = _state(client)
+            client.ends()
             with Running(program, "--save", folder) as other, other.client() as client:
                 client.ask("tenant 77")
                 client.file(b"second")
                 state_of_other = _state(client)
                 found = differences((client.ends(), b""), (other.end(), CLEAN), (server.end(), CLEAN))
             told = server.process.stdout.read() if server.process.stdout else b""
-            found += differences((told.decode(), f"b3store.server: saved 1 object and 1 tenant in {folder}-moved\n"))
+            found += differences((told.decode(), f"b3store.server: saved 2 objects and 1 tenant in {folder}-moved\n"))
         return found + differences((_state_at(program, folder), state_of_other), (_state_at(program, f"{folder}-moved"), state))
 
 
@@ -432,11 +505,14 @@ def folders_that_are_removed(program: str) -> List[str]:
     with _folder() as folder, Running(program, "--save", folder) as server, server.client() as client:
         client.ask("tenant 100000")
         client.ends()
-        shutil.rmtree(folder)
-        _saved_folder(program, folder)
-        files, wanted = _files(folder), f"b3store.server: {folder} holds 'content.1' and is not the folder that the server had locked"
+        _saved_folder(program, f"{folder}-other")
+        os.rename(folder, f"{folder}-removed")
+        os.rename(f"{folder}-other", folder)
+        shutil.rmtree(f"{folder}-removed")
+        files, wanted = _files(folder), f"b3store.server: {folder} holds 'log' and is not the folder that the server had locked"
+        found += differences((wait_until(lambda: wanted in server.reported()), True))
         status, told, left = _end_unsaved(server)
-        return found + differences((status, 4), (told[: len(wanted)], wanted), (left, []), (_files(folder), files))
+        return found + differences((status, 4), (told.count(wanted), 2), (left, []), (_files(folder), files))
 
 
 def _saved_folder(program: str, folder: str) -> None:
@@ -452,54 +528,45 @@ def _flipped(content: bytes, at: int) -> bytes:
     return content[:at] + bytes([content[at] ^ 1]) + content[at + 1 :]
 
 
-def _damaged(files: Dict[str, bytes]) -> Iterator[Tuple[Dict[str, Optional[bytes]], str]]:
-    """Files in place of those of a folder, None for one that is missing, and what the message says."""
-    index, content = files["index"], files["content.1"]
-    lines = index.splitlines(True)
-    yield {"index": b""}, "index is damaged, or not the index"
-    yield {"index": b"<html>\n" * 100}, "index is damaged, or not the index"
-    yield {"index": lines[0]}, "index is truncated"
-    yield {"index": b"".join(lines[:-1])}, "index is truncated"
-    yield {"index": index[:-1]}, f"index is damaged at line {len(lines)}"
-    yield {"index": index + lines[-1]}, f"index is damaged at line {len(lines) + 1}"
-    yield {"index": b"".join(lines[:2] + lines[3:])}, f"index is damaged at line {len(lines) - 1}"
-    yield {"index": lines[0] + checked_line("tenant 5") + checked_line("end 3")}, "index is damaged at line 3"
-    yield {"index": b"".join([lines[0], *lines[2:]])}, "index is damaged at line 2"
-    for at in range(0, len(index), 37):
-        yield {"index": _flipped(index, at)}, "index is damaged"
-    yield {"content.1": content[:-1]}, f"content.1 is truncated: it has {len(content) - 1} of {len(content)} bytes"
-    yield {"content.1": None}, "content.1 is missing"
-    for at in (0, len(content) // 2, len(content) - 1):
-        yield {"content.1": _flipped(content, at)}, "content.1 is damaged: the bytes of the object"
+def _damaged(log: bytes) -> Iterator[Tuple[bytes, str]]:
+    """Logs in place of one, and what the message says."""
+    yield b"<html>\n" * 100, "log: line 1, at byte 0, is no line of a log; nothing was changed; `truncate -s 0`"
+    yield b"kept", "log: line 1, at byte 0, is no line of a log"
+    yield bytes(4096), "log: line 1, at byte 0, is no line of a log"
+    yield log + b"\n", f", at byte {len(log)}, is no line of a log; nothing was changed; `truncate -s {len(log)}`"
+    yield log + b"list 0\n", f", at byte {len(log)}, is no line of a log"
+    yield log + b"limit 0 " + b"1" * 300, f", at byte {len(log)}, is no line of a log"
+    yield log + b"limit 7 5\n", f", at byte {len(log)}, is answered 'refused S1'"
+    yield log + b"tenant 99999999999999999999\n", f", at byte {len(log)}, is answered 'bad'"
+    yield log[log.index(b"\n") + 1 :], "log: line 1, at byte 0, is answered 'refused S1'"
+    yield _flipped(log, log.index(bytes(100)) + 50), "is answered 'refused S11"
+    yield _flipped(log, log.index(b"fileas") + 20), "log: line 2, at byte 15, is "
 
 
-def damaged_files(program: str) -> List[str]:
-    """A damaged file is named in a message, the status is 1, and nothing in the folder changes."""
+def damaged_logs(program: str) -> List[str]:
+    """A line that is wrong or refused is named in a message, the status is 1, and nothing in the folder changes."""
     found = []
     with _folder() as folder:
         _saved_folder(program, folder)
-        files = _files(folder)
-        for changed, wanted in _damaged(files):
-            for name, content in {**files, **changed}.items():
-                if content is None:
-                    os.unlink(os.path.join(folder, name))
-                    continue
-                with open(os.path.join(folder, name), "wb") as file:
-                    file.write(content)
+        for log, wanted in _damaged(_log_of(folder)):
+            with open(f"{folder}/log", "wb") as file:
+                file.write(log)
             before = _files(folder)
             status, told = fails("--program", program, "--socket", f"{folder}-socket", "--save", folder)
-            found += differences((status, 1), (wanted in told and "nothing was changed" in told and told.count("\n") == 1, True), (_files(folder), before))
+            found += differences((status, 1), (wanted in told and told.count("\n") == 1, True), (_files(folder), before))
     return found[:5]
 
 
-def contents_that_cannot_be_read(program: str) -> List[str]:
-    """A file that can't be read is named in a message, the status is 1, and nothing in the folder changes."""
+def logs_that_cannot_be_read(program: str) -> List[str]:
+    """If the log can't be read, or there is no memory for that, a message says so, the status is 1, and nothing in the folder changes."""
+    found = []
     with _folder() as folder:
         _saved_folder(program, folder)
-        files, wanted = _files(folder), f"b3store.server: {folder}/content.1 can't be read: Input/output error; nothing was changed"
-        with Running(program, "--save", folder, python=["-c", UNREADABLE]) as server:
-            found = differences((server.status(), 1), (server.reported()[: len(wanted)], wanted), (server.reported().count("\n"), 1))
-            return found + differences((_files(folder), files), (server.left(), []))
+        files, wanted = _files(folder), f"b3store.server: the store that is saved in {folder}/log can't be restored: "
+        for script, reason in (UNREADABLE, "Input/output error\n"), (NO_MEMORY, "out of memory\n"):
+            with Running(program, "--save", folder, python=["-c", script]) as server:
+                found += differences((server.status(), 1), (server.reported(), wanted + reason), (_files(folder), files), (server.left(), []))
+    return found
 
 
 def folders_that_are_none(program: str) -> List[str]:
@@ -508,7 +575,7 @@ def folders_that_are_none(program: str) -> List[str]:
     with _folder() as folder:
         words = ("--program", program, "--socket", f"{folder}-socket", "--save")
         os.mkdir(folder)
-        for name in "notes", "content.1", "log":
+        for name in "notes", "index":
             with open(os.path.join(folder, name), "wb") as file:
                 file.write(b"kept")
             before = _files(folder)
@@ -528,9 +595,9 @@ def folders_that_are_none(program: str) -> List[str]:
         for make in os.mkfifo, os.mkdir:
             with _folder() as other:
                 os.mkdir(other)
-                make(os.path.join(other, "index"))
+                make(os.path.join(other, "log"))
                 status, told = fails(*words, other)
-                found += differences((status, 1), (told.startswith(f"b3store.server: {other}/index is not a file; "), True))
+                found += differences((status, 1), (told.startswith(f"b3store.server: {other}/log is not a file; "), True))
         found += differences((fails("--program", f"{folder}/none", "--socket", f"{folder}-socket", "--save", f"{folder}-new")[0], 1))
         return found + differences((_state_at(program, f"{folder}-new"), {}))
 
@@ -544,7 +611,6 @@ def folders_of_others(program: str) -> List[str]:
     for mode, owner, wanted in cases:
         with _folder() as folder:
             _saved_folder(program, folder)
-            os.unlink(os.path.join(folder, "content.1"))
             os.chmod(folder, mode)
             if owner is not None:
                 os.chown(folder, owner, -1)
@@ -557,23 +623,24 @@ def links_in_a_folder(program: str) -> List[str]:
     """No link in the folder is followed: what it leads to is neither written to nor read."""
     with _folder() as folder:
         _saved_folder(program, folder)
-        other = f"{folder}-other"
-        with open(other, "wb") as file:
-            file.write(b"kept")
-        os.symlink(other, f"{folder}/index.new")
+        other = append_to(f"{folder}-other")
+        os.unlink(f"{folder}/clean")
+        for name in "log.new", "clean":
+            os.symlink(other, f"{folder}/{name}")
         with Running(program, "--save", folder) as server, server.client() as client:
-            os.symlink(other, f"{folder}/index.new")
+            for name in "log.new", "clean":
+                os.symlink(other, f"{folder}/{name}")
             client.file(b"new")
             state = _state(client)
+            os.unlink(f"{folder}/log")
+            os.symlink(other, f"{folder}/log")
             found = differences((client.ends(), b""), (server.end(), CLEAN), (_state_at(program, folder), state))
-        for name in os.listdir(folder):
-            os.rename(os.path.join(folder, name), f"{folder}-file")
-            os.symlink(f"{folder}-file", os.path.join(folder, name))
-            status, told = fails("--program", program, "--socket", f"{folder}-socket", "--save", folder)
-            found += differences((status, 1), (f"{folder}/{name} is not a file; nothing was changed" in told, True))
-            os.rename(f"{folder}-file", os.path.join(folder, name))
+        os.rename(f"{folder}/log", f"{folder}-file")
+        os.symlink(f"{folder}-file", f"{folder}/log")
+        status, told = fails("--program", program, "--socket", f"{folder}-socket", "--save", folder)
+        found += differences((status, 1), (f"{folder}/log is not a file; nothing was changed" in told, True))
         with open(other, "rb") as file:
-            return found + differences((file.read(), b"kept"))
+            return found + differences((file.read(), b"another"))
 
 
 def folders_that_are_made(program: str) -> List[str]:
@@ -603,41 +670,81 @@ def _end_unsaved(server: Running) -> Tuple[int, str, List[str]]:
     return status, told.split(KEEPS_RUNNING)[0], left
 
 
-def _fails_to_save(program: str, folder: str, **more: Any) -> List[str]:
-    """A save that the disk has no room for: status 4, a message, and the save before is whole."""
-    state = _state_at(program, folder)
-    files = _files(folder)
+def _cannot_write(program: str, folder: str, fill: Any, free: Any, **more: Any) -> List[str]:
+    """While there is no room, clients are served, and a kill loses only what was filed since. Then the log gets all of that."""
     with Running(program, "--save", folder, **more) as server, server.client() as client:
         client.ask("tenant 5000000")
+        first = client.file(b"first")
+        found = differences((_is_logged(folder, first.encode()), True))
+        fill(server)
         for number in range(3):
             client.file(b"%d" % number * 150_000)
-        client.ends()
-        status, told, left = _end_unsaved(server)
-        wanted = f"b3store.server: the store can't be saved in {folder}, which keeps the save before: "
-        found = differences((status, 4), (told.startswith(wanted) and told.count("\n") == 1, True), (left, []), (_files(folder), files))
+        told = f"b3store.server: the log in {folder} can't be written: "
+        found += differences((wait_until(lambda: told in server.reported()), True), (wait_until(lambda: b"0" * 9 not in _log_of(folder)), True))
+        time.sleep(2)
+        copy = f"{tempfile.mkdtemp(dir=server.folder)}/saved"
+        shutil.copytree(folder, copy)
+        found += differences((_state_at(program, copy)["list 0"], client.ask("list 0").replace(b"list 4", b"list 1").partition(b" 5\n")[0] + b" 5\n"))
+        shutil.rmtree(os.path.dirname(copy))
+        free(server)
+        last = client.file(b"last").encode()
+        state = _state(client)
+        found += differences((_is_logged(folder, last), True), (wait_until(lambda: " is written again\n" in server.reported()), True))
+        found += differences((server.reported().count("\n"), 2))
+        server.signal(signal.SIGKILL)
+        server.status()
     return found + differences((_state_at(program, folder), state))
 
 
+def _limits(server: Running, length: int) -> None:
+    """Lets a server write files of some length."""
+    hard = resource.prlimit(server.process.pid, resource.RLIMIT_FSIZE)[1]
+    resource.prlimit(server.process.pid, resource.RLIMIT_FSIZE, (hard if length < 0 else length, hard))
+
+
 def full_disks(program: str) -> List[str]:
-    """A write that fails, be it of the contents or of the index, leaves the save before and nothing else."""
+    """A write that fails is reported once, and leaves what was written before; once there is room, the log gets the rest."""
     with _folder() as folder:
-        _saved_folder(program, folder)
-        found = _fails_to_save(program, folder, python=["-c", LIMITED], LIMIT="100000")
-        with Running(program, "--save", folder, python=["-c", LIMITED], LIMIT="8000") as server, server.client() as client:
-            state, files = _state(client), _files(folder)
-            for number in range(100):
-                client.file(b"%d" % number)
-            client.ends()
-            found += differences((_end_unsaved(server)[0], 4), (_files(folder), files))
-        found += differences((_state_at(program, folder), state))
+        found = _cannot_write(program, folder, lambda server: _limits(server, 200_000), lambda server: _limits(server, -1))
     with tempfile.TemporaryDirectory() as disk:
-        if subprocess.run(["mount", "-t", "tmpfs", "-o", "size=256k", "none", disk], stderr=subprocess.DEVNULL).returncode:
+        if subprocess.run(["mount", "-t", "tmpfs", "-o", "size=900k", "none", disk], stderr=subprocess.DEVNULL).returncode:
             return found
         try:
-            _saved_folder(program, os.path.join(disk, "saved"))
-            return found + _fails_to_save(program, os.path.join(disk, "saved"))
+            other = os.path.join(disk, "other")
+
+            def fill(_: Running) -> None:
+                with open(other, "wb") as file:
+                    file.write(bytes(700_000))
+
+            return found + _cannot_write(program, os.path.join(disk, "saved"), fill, lambda _: os.unlink(other))
         finally:
             subprocess.run(["umount", disk], check=True)
+
+
+def syncs_that_fail(program: str) -> List[str]:
+    """If the log can't be synced, the system may have lost what was written: it is written again. If the folder can't be synced, that is tried again too."""
+    found = []
+    with _folder() as folder:
+        failing, failing_data = f"{folder}-failing", f"{folder}-data"
+        words = {"python": ["-c", UNSYNCED], "FAILING": failing, "FAILING_DATA": failing_data}
+        with Running(program, "--save", folder, **words) as server, server.client() as client:  # type: ignore[arg-type]
+            client.ask("tenant 5000000")
+            client.file(b"first")
+            found += differences((_is_logged(folder, b"first"), True))
+            time.sleep(2)
+            for path in failing_data, failing:
+                append_to(path)
+                if path == failing:
+                    os.unlink(f"{folder}/log")
+                client.file(path.encode())
+                told = f"b3store.server: the log in {folder} can't be written: Input/output error; the server tries again\n"
+                found += differences((wait_until(lambda told=told: told in server.reported()), True))
+                os.unlink(path)
+                found += differences((wait_until(lambda: server.reported().endswith(" is written again\n")), True), (_is_logged(folder, path.encode()), True))
+            state = _state(client)
+            server.signal(signal.SIGKILL)
+            server.status()
+        return found + differences((_state_at(program, folder), state))
 
 
 def serves_while_saves_fail(program: str) -> List[str]:
@@ -668,7 +775,7 @@ def saves_that_never_succeed(program: str) -> List[str]:
             client.ask("tenant 5000000")
             client.file(bytes(200_000))
         status, told, left = server.end()
-        return differences((status, 4), (told.count(KEEPS_RUNNING), 1), (told.count(": File too large\n"), 2), (left, []))
+        return differences((status, 4), (told.count(KEEPS_RUNNING), 1), (told.count("before: File too large\n"), 2), (left, []))
 
 
 def saves_that_are_tried_again(program: str) -> List[str]:
@@ -679,7 +786,7 @@ def saves_that_are_tried_again(program: str) -> List[str]:
         state = _state(client)
         client.ends()
         server.signal()
-        found = differences((wait_until(lambda: server.reported().count("which keeps the save before: File too large\n") > 1), True))
+        found = differences((wait_until(lambda: server.reported().count("which has what was saved before: File too large\n") > 1), True))
         resource.prlimit(server.process.pid, resource.RLIMIT_FSIZE, (resource.getrlimit(resource.RLIMIT_FSIZE)[1],) * 2)
         found += differences((server.status(), 0), (server.left(), []), (_state_at(program, folder), state))
     with _folder() as folder, Running(program, "--save", folder, python=["-c", FAILING_ONCE]) as server, server.client() as client:
@@ -698,7 +805,7 @@ def stores_that_are_stopped(program: str) -> List[str]:
         with Running(program, "--save", folder, "--grace", "0", python=["-c", HASTY]) as server:
             os.kill(server.store(), signal.SIGSTOP)
             status, told, left = server.end()
-        wanted = "b3store.server: the store did not answer for 1 s, and was killed; everything in it is lost, except for the last save"
+        wanted = "b3store.server: the store did not answer for 1 s, and was killed; everything in it is lost, except for what its log has"
         return differences((status, 4), (told.splitlines()[-1], wanted), (left, []), (_state_at(program, folder), state))
 
 
@@ -713,56 +820,6 @@ def other_signals(program: str) -> List[str]:
         client.ends()
         server.signal(signal.SIGQUIT)
         return differences((server.status(), 0), (server.reported(), ""), (server.left(), []), (_state_at(program, folder), state))
-
-
-def folders_that_are_not_synced(program: str) -> List[str]:
-    """If the folder can't be synced, the new save is there, and what the one before needs is still there for a crash that brings its index back."""
-    with _folder() as folder:
-        _saved_folder(program, folder)
-        before, files = _state_at(program, folder), _files(folder)
-        with Running(program, "--save", folder, python=["-c", UNSYNCED]) as server, server.client() as client:
-            client.file(b"new")
-            client.ask(f"forget 0 {client.ask('list 0').split()[2].decode()}")
-            state = _state(client)
-            client.ends()
-            status, told, left = _end_unsaved(server)
-        wanted = f"b3store.server: the store is saved in {folder}, but its folder can't be synced: Input/output error"
-        found = differences((status, 4), (told.startswith(wanted) and told.count("\n") == 1, True), (left, []))
-        crashed = f"{folder}-crashed"
-        shutil.copytree(folder, crashed)
-        with open(os.path.join(crashed, "index"), "wb") as index:
-            index.write(files["index"])
-        found += differences((_state_at(program, crashed), before))
-        # a start that can't sync the folder either
-        with Running(program, "--save", folder, python=["-c", NEVER_SYNCED]) as server:
-            found += differences((server.lines[-1][:27], "b3store.server: listening o"), (set(files) <= set(_files(folder)), True))
-            server.signal(signal.SIGKILL)
-            server.status()
-        found += differences((_state_at(program, folder), state), (set(files) <= set(_files(folder)), False))
-        return found
-
-
-def no_memory_after_a_save(program: str) -> List[str]:
-    """A save that is there is reported as saved, though there is no memory to find the files that it doesn't need any more. The next save removes them."""
-    with _folder() as folder:
-        _saved_folder(program, folder)
-        is_saved = "lambda path: os.path.exists(os.path.join(path, 'content.2'))"
-        with Running(program, "--save", folder, python=["-c", NO_MEMORY], WHEN=is_saved) as server, server.client() as client:
-            client.file(b"new")
-            state = _state(client)
-            found = differences((client.ends(), b""), (server.end(), CLEAN), (sorted(os.listdir(folder)), ["content.1", "content.2", "index"]))
-        found += differences((_state_at(program, folder), state), (sorted(os.listdir(folder)), ["content.2", "index"]))
-        return found
-
-
-def no_memory_at_the_start(program: str) -> List[str]:
-    """A start without memory for the index ends with a message, and changes nothing."""
-    with _folder() as folder:
-        _saved_folder(program, folder)
-        files = _files(folder)
-        with Running(program, "--save", folder, python=["-c", NO_MEMORY], WHEN="lambda path: True") as server:
-            told = f"b3store.server: cannot use the folder {folder}: out of memory\n"
-            return differences((server.status(), 1), (server.reported(), told), (server.left(), []), (_files(folder), files))
 
 
 def no_memory_for_uploads(program: str) -> List[str]:
@@ -792,34 +849,15 @@ def full_stores(program: str) -> List[str]:
         return differences((client.ends(), b""), (server.end(), CLEAN), (_state_at(program, folder), state))
 
 
-def many_holders(program: str) -> List[str]:
-    """A save of objects that many tenants hold needs little memory for each holder. (It needed about 170 bytes.)"""
-    tenants, objects = 60, 2000
-    with _folder() as folder:
-        growth = f"{folder}-growth"
-        with Running(program, "--save", folder, python=["-c", MEASURED], GROWTH=growth) as server, server.client() as client:
-            found = differences(([client.number("tenant 1000000") for _ in range(tenants)], list(range(tenants))))
-            for number in range(objects):
-                content, first = _content(number), number * tenants
-                parts = ((first + at, at) for at in range(tenants))
-                lines = (b"begin %d %d\nputb %d 0 %d\n%bseal %d\n" % (at, len(content), up, len(content), content, up) for up, at in parts)
-                client.send(b"".join(lines))
-                answers = [client.line() for _ in range(3 * tenants)]
-            found += differences((answers[-1][:5], b"known"), (client.ends(), b""), (server.end(), CLEAN))
-        with open(growth, encoding="ascii") as file:
-            kib = int(file.read())
-        return found + ([] if kib < 64 * tenants * objects // 1024 else [f"a save needs {kib} KiB for {tenants * objects} holders"])
-
-
 def stores_that_end(program: str) -> List[str]:
     """When the store's process is killed, the folder keeps the save before. A start whose store ends, or that is stopped, changes nothing."""
     with _folder() as folder:
         _saved_folder(program, folder)
-        state, files = _state_at(program, folder), _files(folder)
-        with Running(program, "--save", folder) as server, server.client() as client:
-            client.file(b"lost")
+        state = _state_at(program, folder)
+        files = _files(folder)
+        with Running(program, "--save", folder) as server:
             os.kill(server.store(), signal.SIGKILL)
-            found = differences((server.status(), 3), ("is lost, except for the last save\n" in server.reported(), True), (_files(folder), files))
+            found = differences((server.status(), 3), ("is lost, except for what its log has\n" in server.reported(), True), (_files(folder), files))
         with Running(program, "--save", folder, "--grace", "60") as server, server.client() as client:
             client.ask("tenants")
             server.signal()
@@ -858,19 +896,6 @@ def stops_at_the_start(program: str) -> List[str]:
         return found[:5] + differences((_state_at(program, folder), state))
 
 
-def orders_of_lists(program: str) -> List[str]:
-    """An order that agrees with each tenant's list, for random holders; lists that contradict one another lose addresses, and end."""
-    del program
-    chance, found = random.Random(4), []
-    for _ in range(300):
-        order = [str(number) for number in range(chance.randrange(1, 20))]
-        lists: Dict[int, List[str]] = {tenant: [address for address in order if chance.random() < 0.4] for tenant in range(chance.randrange(1, 6))}
-        merged = list(in_filing_order(lists))
-        for tenant, wanted in lists.items():
-            found += differences(([address for address, holders in merged if tenant in holders], wanted))
-    return found[:5] + differences((list(in_filing_order({0: ["a", "b"], 1: ["b", "a"]})), []))
-
-
 def asks_for_time(program: str) -> List[str]:
     """systemd is asked for more time while a save or a restoration lasts."""
     import socket
@@ -893,37 +918,33 @@ def asks_for_time(program: str) -> List[str]:
 
 SAVES = (
     ("a store that is saved and restored", restores_all),
+    ("a log that follows clients", follows_clients),
     ("a save when clients don't end", saves_what_was_answered),
     ("a save when commands are left", saves_while_commands_are_left),
-    ("saves of what is new", only_new_contents),
-    ("saves that are killed", saves_that_are_killed),
-    ("saves that are killed at each step", saves_that_are_killed_at_each_step),
+    ("kills beside writers", kills_beside_writers),
+    ("a log that is written anew", writes_anew),
+    ("kills while a log is written anew", kills_while_written_anew),
+    ("torn ends of a log", torn_ends),
     ("two servers on one folder", one_server_alone),
-    ("files that are changed before a save", contents_that_are_changed),
-    ("content files of another program", contents_of_others),
-    ("content files that can't be removed", contents_that_stay),
+    ("logs that are changed", logs_that_are_changed),
     ("a folder that is moved", folders_that_are_moved),
     ("a folder that is removed", folders_that_are_removed),
-    ("damaged files of a save", damaged_files),
-    ("a save that can't be read", contents_that_cannot_be_read),
+    ("damaged logs", damaged_logs),
+    ("logs that can't be read", logs_that_cannot_be_read),
     ("folders that are none for a save", folders_that_are_none),
     ("folders of others for a save", folders_of_others),
     ("links in the folder of a save", links_in_a_folder),
     ("folders that are made for a save", folders_that_are_made),
-    ("saves on a full disk", full_disks),
+    ("logs on a full disk", full_disks),
+    ("logs that can't be synced", syncs_that_fail),
     ("clients while a save is tried again", serves_while_saves_fail),
     ("saves that never succeed", saves_that_never_succeed),
     ("saves that are tried again", saves_that_are_tried_again),
     ("saves of stores that are stopped", stores_that_are_stopped),
     ("saves at other signals", other_signals),
-    ("saves in a folder that can't be synced", folders_that_are_not_synced),
-    ("a save without memory at its end", no_memory_after_a_save),
-    ("a start without memory for a save", no_memory_at_the_start),
     ("a save after memory ran out for uploads", no_memory_for_uploads),
     ("a save of a full store", full_stores),
-    ("a save of many holders", many_holders),
     ("saves of stores that end", stores_that_end),
     ("a restoration that is stopped", stops_at_the_start),
-    ("the order of saved objects", orders_of_lists),
     ("time for a save", asks_for_time),
 )
