@@ -204,7 +204,7 @@ def _fill(client: Client) -> None:
 
 
 def _log_of(folder: str) -> bytes:
-    return _files(folder)["log"]
+    return _files(folder).get("log", b"")
 
 
 def _is_logged(folder: str, *contents: bytes) -> bool:
@@ -363,11 +363,9 @@ def writes_anew(program: str) -> List[str]:
             found += differences((_is_logged(folder, late), True))
             server.signal(signal.SIGKILL)
             server.status()
-        log = _log_of(folder)
         found += differences((_state_at(program, folder), state))
         with open(f"{folder}/log", "ab") as file:
-            for number in range(30):
-                file.write(b"limit 1 %d\nfileas 1 %s 54\n%s" % (1000 + number, log.partition(b"fileas 1 ")[2][:64], b"shared" * 9) * 1000)
+            file.write(b"fileas 0 %s 300000\n%sforget 0 %s\n" % (addresses[0].encode(), b"0" * 300_000, addresses[0].encode()) * 6)
         with Running(program, "--save", folder) as server:
             found += differences((wait_until(lambda: os.stat(f"{folder}/log").st_size < 700_000), True), (server.end(), CLEAN))
     return found
@@ -376,32 +374,27 @@ def writes_anew(program: str) -> List[str]:
 def kills_while_written_anew(program: str) -> List[str]:
     """A server that is killed at each step of that, one after the other, loses nothing."""
     found, statuses = [], []
-    with _folder() as folder:
-        while statuses[-1:] != [0] and len(statuses) < 60:
-            with Running(program, "--save", folder, "--sync", "always", python=["-c", STEPS], STEPS=str(len(statuses))) as server, server.client() as client:
+    while statuses[-1:] != [0] and len(statuses) < 60:
+        with _folder() as folder:
+            words = ("--save", folder, "--sync", "always")
+            with Running(program, *words, python=["-c", STEPS], STEPS=str(len(statuses))) as server, server.client() as client:
                 client.ask("tenant 100000000")
                 address = client.file(bytes(2_000_000))
-                kept = client.file(_content(len(statuses)))
-                state = _state(client)
-                found += differences((_is_logged(folder, kept.encode()), True))
-                with contextlib.suppress(OSError, EOFError, IndexError):
-                    client.ask(f"forget 0 {address}")
-                    wait_until(lambda: server.process.poll() is not None or os.stat(f"{folder}/log").st_size < 1_000_000)
-                    time.sleep(SHORTLY)
+                kept = client.file(b"kept")
+                found += differences((_is_logged(folder, b"kept"), True))
+                client.send(f"forget 0 {address}\n".encode())
+                wait_until(lambda: server.process.poll() is not None or os.stat(f"{folder}/log").st_size < 1_000_000)
+                with contextlib.suppress(OSError):
                     client.ends()
-                if server.process.poll() is None:
                     server.signal()
                 statuses.append(server.status())
-            now = _state_at(program, folder)
-            gone = [line for line in state if address in line]
-            found += differences(([now[line] for line in now if kept in line], [state[line] for line in state if kept in line]), (len(os.listdir(folder)), 1))
-            found += differences((any(line in now for line in gone), False)) if statuses[-1] == 0 else []
-    return found[:5] + differences((set(statuses[:-1]), {-signal.SIGKILL}), (statuses[-1], 0), (len(statuses) > 8, True))
+            found += differences((_state_at(program, folder)["list 0"].splitlines()[1:], [f"{kept} 4".encode()]), (os.listdir(folder), ["log"]))
+    return found[:5] + differences((set(statuses[:-1]), {-signal.SIGKILL}), (statuses[-1], 0), (len(statuses) > 6, True))
 
 
 SMALL = b"tenant 9\nfileas 0 6437b3ac38465133ffb63b75273a8db548c558465d79db03fd359c6cd5bd9d85 3\nabclimit 0 8\n"
 SMALL += b"forget 0 6437b3ac38465133ffb63b75273a8db548c558465d79db03fd359c6cd5bd9d85\nlimit 0 7\n"
-ENDS = [0, 9, 89, 99, 173, 183]
+ENDS = [0, 9, 88, 98, 172, 182]
 """A small log, and where its lines end."""
 
 
@@ -455,7 +448,7 @@ def logs_that_are_changed(program: str) -> List[str]:
             change(f"{folder}/log")
             address = client.file(b"more").encode()
             state = _state(client)
-            found += differences((wait_until(lambda: os.path.exists(f"{folder}/log")), True), (_is_logged(folder, address), True))
+            found += differences((_is_logged(folder, address), True))
             server.signal(signal.SIGKILL)
             server.status()
             found += differences((server.reported(), ""), (_state_at(program, folder), state))
@@ -872,7 +865,7 @@ def stores_that_end(program: str) -> List[str]:
             server.signal()
             found += differences((wait_until(lambda: "the server ends while 1 connection is open" in server.reported()), True))
             os.kill(server.store(), signal.SIGKILL)
-            found += differences((server.status(), 4), (server.reported().splitlines()[1:2], ["b3store.server: the store can't be saved: the store has ended"]))
+            found += differences((server.status(), 4), (server.reported().splitlines()[1:2], [f"b3store.server: the store can't be saved in {folder}, which has what was saved before: the store has ended"]))
             found += differences((len(server.reported().splitlines()), 3), (_files(folder), files))
         return found + differences((_state_at(program, folder), state))
 
