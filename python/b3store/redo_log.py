@@ -43,7 +43,7 @@ COUNTS = (1 << 12, 1 << 6, 1)
 SYNC_LEN = 1 << 28
 """How many bytes are written between two syncs."""
 MIN_REPLACED_LEN = 1 << 20
-"""The length of a log that isn't written anew."""
+"""A log that is shorter isn't written anew."""
 SECONDS_OF_WRITING = 1.0
 """For how long a log is written anew before the old one is extended again."""
 SECONDS_BETWEEN_TRIES = 60.0
@@ -184,7 +184,8 @@ class RedoLog:
         self._lock = threading.Lock()
         self._is_finished = self._is_folder_synced = False
         self._new: Optional[LogFile] = None
-        self._next_try, self._factor = -math.inf, 1.0
+        self._next_try, self._min_len = -math.inf, MIN_REPLACED_LEN
+        """When the log is written anew at the earliest, and how long it must be then."""
         self._fault: Optional[str] = None
         """What was reported last, if the log can't be written."""
         try:
@@ -211,7 +212,7 @@ class RedoLog:
         try:
             with store.own_session() as session, self._folder.open(LOG) as file:
                 length = session._in_turn(lambda session: run_lines(session, file, path, tick))
-                counts, usages = session.counts(), session.tenants().values()
+                counts = session.counts()
             torn = self._log.begin(length, counts.entries)
             for name in NEW_LOG, CLEAN:
                 with contextlib.suppress(FileNotFoundError):
@@ -222,8 +223,6 @@ class RedoLog:
             raise SaveError(f"the store that is saved in {path} can't be restored: {reason_of(error)}") from None
         if torn:
             self._report(f"{path} ended within a line: its last {count_text(torn, 'byte')} {'is' if torn == 1 else 'are'} removed")
-        # objects of several holders are in the log several times
-        self._factor = max(1.0, (sum(usage.used for usage in usages) + 1) / (counts.bytes + 1))
         return (counts_text(counts) + ("" if self._is_clean else "; the last server was killed")) if counts.tenants else None
 
     def follow(self, store: StoreProcess) -> None:
@@ -240,7 +239,7 @@ class RedoLog:
                 self._note(f"the log in {self._folder.path} can't be written: {reason_of(error)}", store)
                 return
             try:
-                if self._new is not None or self._pays(counts):
+                if self._new is not None or self._pays(store, counts):
                     self._write_anew(store, counts, lambda: None, time.monotonic() + SECONDS_OF_WRITING)
             except Exception as error:
                 self._next_try = time.monotonic() + SECONDS_BETWEEN_TRIES
@@ -306,9 +305,13 @@ class RedoLog:
         os.close(number)
         return ""
 
-    def _pays(self, counts: Counts) -> bool:
-        """Whether the log is more than twice as long as a new one would be."""
-        return time.monotonic() >= self._next_try and self._log.length > max(MIN_REPLACED_LEN, 2 * self._factor * least_len(counts))
+    def _pays(self, store: StoreProcess, counts: Counts) -> bool:
+        """Whether the log is more than twice as long as a new one would be, if it has a line for each object. Several may hold the same: then it has more."""
+        half, lines_len = self._log.length / 2, LINE_LEN * (counts.objects + counts.tenants)
+        if time.monotonic() < self._next_try or self._log.length <= self._min_len or half <= counts.bytes + lines_len:
+            return False
+        with store.own_session() as session:
+            return half > sum(usage.used for usage in session.tenants().values()) + lines_len
 
     def _write_anew(self, store: StoreProcess, counts: Counts, tick: Tick, end: float = math.inf) -> None:
         """Writes a new log until it has all that the store had, and puts it in place of the old one; or writes some of it."""
@@ -322,9 +325,10 @@ class RedoLog:
         except BaseException:
             self._drop_new()
             raise
+        # one that didn't pay isn't repeated soon
+        self._min_len = 2 * self._new.length if end < math.inf and 2 * self._new.length > self._log.length else MIN_REPLACED_LEN
         self._log.close()
         self._log, self._new, self._is_folder_synced = self._new, None, False
-        self._factor = max(1.0, self._log.length / least_len(counts))
         self._sync_folder()
 
     def _sync_folder(self) -> None:
@@ -349,11 +353,6 @@ def counts_of(store: StoreProcess) -> Counts:
 def counts_text(counts: Counts) -> str:
     """Says how much a store has."""
     return f"{count_text(counts.objects, 'object')} and {count_text(counts.tenants, 'tenant')}"
-
-
-def least_len(counts: Counts) -> int:
-    """About how long a new log is, if each object has one holder."""
-    return counts.bytes + LINE_LEN * (counts.objects + counts.tenants + 1)
 
 
 def write_at(file: int, content: memoryview, at: int) -> None:

@@ -214,22 +214,22 @@ def saves_beside_idle_clients(program: str) -> List[str]:
 
 CHANGES = """
 import os, runpy
-from b3store import saved
-save = saved.SavedStore.save
-def save_late(*given):
+from b3store.redo_log import RedoLog
+append = RedoLog._append
+def append_late(*given):
     os.write(int(os.environ["TOLD"]), b"s")
     os.read(int(os.environ["GOING"]), 1)
-    text = save(*given)
+    counts = append(*given)
     os.write(int(os.environ["TOLD"]), b"e")
     os.read(int(os.environ["GOING"]), 1)
-    return text
-saved.SavedStore.save = save_late
+    return counts
+RedoLog._append, RedoLog.follow = append_late, lambda *_: None
 runpy.run_module('b3store.server', run_name='__main__', alter_sys=True)
 """
 
 
 def saves_beside_clients_that_stay(program: str) -> List[str]:
-    """A client that goes on while the store is saved changes it: it is saved again. One that doesn't stop is reported, and doesn't keep the server."""
+    """What a client changes while the server ends is appended again. One that doesn't stop is reported, and doesn't keep the server."""
     found: List[str] = []
     for changes in 1, 5:
         (told, telling), (going, letting) = os.pipe(), os.pipe()
@@ -256,7 +256,7 @@ def saves_beside_clients_that_stay(program: str) -> List[str]:
 
 
 def _passing(program: str, folder: str, telling: int, going: int) -> Running:
-    """A server that says before and after each save that it is there, and waits."""
+    """A server that says, before and after it appends to the log, that it is there, and waits."""
     for end in telling, going:
         os.set_inheritable(end, True)
     return Running(program, "--save", folder, "--grace", "0", python=["-c", CHANGES], closes=False, TOLD=str(telling), GOING=str(going))

@@ -357,7 +357,7 @@ def writes_anew(program: str) -> List[str]:
             found = differences((_is_logged(folder, b"shared" * 9), True), (os.stat(f"{folder}/log").st_ino, inode))
             for address in addresses[:7]:
                 client.ask(f"forget 0 {address}")
-            found += differences((wait_until(lambda: os.stat(f"{folder}/log").st_size < 700_000), True), (os.listdir(folder), ["log"]))
+            found += differences((wait_until(lambda: os.stat(f"{folder}/log").st_size < 1_400_000), True), (os.listdir(folder), ["log"]))
             late = client.file(b"late").encode()
             state = _state(client)
             found += differences((_is_logged(folder, late), True))
