@@ -44,7 +44,7 @@ SYNC_LEN = 1 << 28
 """How many bytes are written between two syncs."""
 MIN_REPLACED_LEN = 1 << 20
 """A log that is shorter isn't written anew."""
-SECONDS_OF_WRITING = 1.0
+SECONDS_OF_WRITING = 0.5
 """For how long a log is written anew before the old one is extended again."""
 SECONDS_BETWEEN_TRIES = 60.0
 """How long after a log couldn't be written anew this is tried again."""
@@ -108,36 +108,31 @@ class LogFile:
         return torn
 
     def extend(self, store: StoreProcess, target: int, tick: Tick, end: float = math.inf) -> bool:
-        """Appends the lines that redo the entries up to number `target`, and maybe further ones. False if there wasn't enough time. After an error the log goes
-        as far as at the last sync; the bytes after that are removed here before others are written."""
+        """Appends the lines that redo the entries up to number `target`, and maybe further ones. False if there wasn't enough time. Bytes that belong to no
+        answer, as after an error, are removed."""
+        if self.status().st_size > self.length:
+            os.ftruncate(self._file.fileno(), self.length)
         try:
-            if self.entry < target and self.status().st_size > self.length:
-                os.ftruncate(self._file.fileno(), self.length)
             while self.entry < target and time.monotonic() < end:
                 self._append(store, tick)
                 if self.length - self._synced[0] >= SYNC_LEN:
                     self.sync()
-            return self.entry >= target
         except BaseException:
-            self._go_back()
+            with contextlib.suppress(OSError):
+                os.ftruncate(self._file.fileno(), self.length)
             raise
+        return self.entry >= target
 
-    def sync(self, is_needed: bool = True) -> None:
-        """Syncs what was written since the last time. If that fails, it has to be written again: the system may have dropped it."""
+    def sync(self) -> None:
+        """Syncs what was written since the last time. If that fails, it will be written again: the system may have dropped it."""
         if self._synced == (self.length, self.entry):
             return
         try:
-            if is_needed:
-                os.fdatasync(self._file.fileno())
+            os.fdatasync(self._file.fileno())
         except OSError:
-            self._go_back()
+            self.length, self.entry = self._synced
             raise
         self._synced = self.length, self.entry
-
-    def _go_back(self) -> None:
-        self.length, self.entry = self._synced
-        with contextlib.suppress(OSError):
-            os.ftruncate(self._file.fileno(), self.length)
 
     def _append(self, store: StoreProcess, tick: Tick) -> None:
         """Appends one answer of the store."""
@@ -178,7 +173,7 @@ class RedoLog:
 
     def __init__(self, path: str, report: Callable[[str], None], syncs: bool = True) -> None:
         """Opens a folder, which is made if there is none. Raises SaveError, and changes nothing, if another server has it, or if it has other files and no
-        log."""
+        log. If `syncs` is false, only `finish` syncs the log, and what is long."""
         self._report, self._syncs = report, syncs
         self._folder = open_folder(path)
         self._lock = threading.Lock()
@@ -186,8 +181,8 @@ class RedoLog:
         self._new: Optional[LogFile] = None
         self._next_try, self._min_len = -math.inf, MIN_REPLACED_LEN
         """When the log is written anew at the earliest, and how long it must be then."""
-        self._fault: Optional[str] = None
-        """What was reported last, if the log can't be written."""
+        self._fault = self._fault_anew = ""
+        """What was reported last, while the log can't be written, or not anew."""
         try:
             self._open()
         except (OSError, MemoryError) as error:
@@ -225,31 +220,33 @@ class RedoLog:
             self._report(f"{path} ended within a line: its last {count_text(torn, 'byte')} {'is' if torn == 1 else 'are'} removed")
         return (counts_text(counts) + ("" if self._is_clean else "; the last server was killed")) if counts.tenants else None
 
-    def follow(self, store: StoreProcess) -> None:
-        """Appends what was changed, and writes the log anew for some time if that pays. What fails is reported once."""
+    def follow(self, store: StoreProcess) -> bool:
+        """Appends what was changed, and writes the log anew for some time if that pays. What fails is reported once. Returns whether this isn't finished."""
         with self._lock:
             if self._is_finished:
-                return
+                return False
             try:
                 counts = self._append(store, lambda: None)
-                if self._fault is not None:
+                if self._fault:
                     self._report(f"the log in {self._folder.path} is written again")
-                self._fault = None
+                self._fault = ""
             except Exception as error:  # whatever it is, the store is served
-                self._note(f"the log in {self._folder.path} can't be written: {reason_of(error)}", store)
-                return
+                self._fault = self._reported(f"the log in {self._folder.path} can't be written: {reason_of(error)}", self._fault, store)
+                return False
             try:
                 if self._new is not None or self._pays(store, counts):
                     self._write_anew(store, counts, lambda: None, time.monotonic() + SECONDS_OF_WRITING)
             except Exception as error:
                 self._next_try = time.monotonic() + SECONDS_BETWEEN_TRIES
-                self._note(f"the log in {self._folder.path}, which is long, can't be written anew: {reason_of(error)}", store)
+                self._fault_anew = self._reported(f"the long log in {self._folder.path} can't be written anew: {reason_of(error)}", self._fault_anew, store)
+            return self._new is not None
 
-    def _note(self, fault: str, store: StoreProcess) -> None:
-        """Reports a fault, unless it is the last one that was reported, or the store has ended."""
-        if fault != self._fault and store.is_usable():
-            self._report(f"{fault}; the server tries again")
-            self._fault = fault
+    def _reported(self, fault: str, last: str, store: StoreProcess) -> str:
+        """Reports a fault, unless it is the last one that was reported, or the store has ended. Returns what was reported last."""
+        if fault == last or not store.is_usable():
+            return last
+        self._report(f"{fault}; the server tries again")
+        return fault
 
     def finish(self, store: StoreProcess, tick: Tick) -> str:
         """Appends what was changed, as the server ends, and returns what the store has. Raises SaveError; then the log is followed again."""
@@ -263,10 +260,15 @@ class RedoLog:
                 else:
                     self._report("clients that keep their pipes have changed the store while it was saved: the log may not have all of that")
                 self._drop_new()
+                self._log.sync()
+                path = self._find()
                 create_anew(self._folder.number, CLEAN).close()
                 self._sync_folder()
-                path = self._find()
+            except SaveError:
+                raise
             except ERRORS as error:
+                with contextlib.suppress(OSError):
+                    os.unlink(CLEAN, dir_fd=self._folder.number)
                 raise SaveError(f"the store can't be saved in {self._folder.path}, which has what was saved before: {reason_of(error)}") from None
             self._is_finished = True
             return counts_text(counts) + path
@@ -280,8 +282,11 @@ class RedoLog:
             self._write_anew(store, counts, tick)
         if not self._is_folder_synced:
             self._sync_folder()
-        self._log.extend(store, counts.entries, tick)
-        self._log.sync(self._syncs)
+        try:
+            self._log.extend(store, counts.entries, tick)
+        finally:
+            if self._syncs:
+                self._log.sync()
         return counts
 
     def _is_in_place(self) -> bool:

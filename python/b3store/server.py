@@ -208,8 +208,8 @@ class Server:
     def _follow(self, log: RedoLog) -> None:
         """Appends to the log what clients change, until the process ends."""
         while True:
-            time.sleep(SYNCS[self._options.sync])
-            log.follow(self._store)
+            if not log.follow(self._store):
+                time.sleep(SYNCS[self._options.sync])
 
     def run(self) -> int:
         """Serves, and returns the exit status."""
