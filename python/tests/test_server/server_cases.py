@@ -4,6 +4,7 @@ from typing import Callable, Iterator, List, Tuple
 
 from ends import ENDS
 from lines import LINES
+from logs import LOGS
 from pipes import PIPES
 from saves import SAVES
 from scanning import SCANNING
@@ -12,5 +13,5 @@ from storm import STORM
 
 def cases(program: str) -> Iterator[Tuple[str, Callable[[], List[str]]]]:
     """Each case by its name. It returns what is not as it should be."""
-    for name, case in SCANNING + LINES + PIPES + ENDS + SAVES + STORM:
+    for name, case in SCANNING + LINES + PIPES + ENDS + SAVES + LOGS + STORM:
         yield f"the server: {name}", functools.partial(case, program)

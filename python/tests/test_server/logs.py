@@ -1,0 +1,426 @@
+"""How a server follows its store with a log, whatever fails or is killed."""
+import contextlib
+import hashlib
+import os
+import random
+import resource
+import shutil
+import signal
+import subprocess
+import sys
+import tempfile
+import threading
+import time
+from typing import Any, Dict, Iterator, List, Set, Tuple
+
+from judging import differences, wait_until
+from running import CLEAN, PACKAGE, SECONDS, Running, fails
+from saving import RUN_SERVER, append_to, content_of, files_in, fill_folder, flipped, is_logged, log_of, save_folder, state_at, state_of
+
+sys.path.insert(1, PACKAGE)
+from b3store.redo_log import RedoLog
+from b3store.server_store import StoreProcess
+
+KILLS = 20
+WRITERS = 3
+STEPS = f"""
+import os, signal
+from b3store import redo_log
+left, is_writing, write = [int(os.environ["STEPS"])], [], redo_log.RedoLog._write_anew
+def counted(call):
+    def work(*given, **named):
+        if is_writing:
+            left[0] -= 1
+            if left[0] < 0:
+                os.kill(os.getpid(), signal.SIGKILL)
+        return call(*given, **named)
+    return work
+def write_in_steps(*given):
+    is_writing.append(1)
+    try:
+        return write(*given)
+    finally:
+        is_writing.clear()
+redo_log.RedoLog._write_anew = write_in_steps
+for name in "fsync", "fdatasync", "replace", "unlink", "open", "pwrite", "fstat":
+    setattr(os, name, counted(getattr(os, name)))
+{RUN_SERVER}
+"""
+"""A server that is killed while it writes its log anew, once it has done as many steps with files as the variable STEPS says."""
+UNSYNCED = f"""
+import errno, os, stat
+fsync, fdatasync, synced = os.fsync, os.fdatasync, [0]
+def sync(file):
+    if stat.S_ISDIR(os.fstat(file).st_mode) and os.path.exists(os.environ["FAILING"]):
+        raise OSError(errno.EIO, os.strerror(errno.EIO))
+    fsync(file)
+def sync_data(file):
+    size = os.fstat(file).st_size
+    if os.path.exists(os.environ["FAILING_DATA"]):
+        # what is not synced is lost
+        os.pwrite(file, bytes(size - synced[0]), synced[0])
+        raise OSError(errno.EIO, os.strerror(errno.EIO))
+    fdatasync(file)
+    synced[0] = size
+os.fsync, os.fdatasync = sync, sync_data
+{RUN_SERVER}
+"""
+"""A server that can't sync folders while there is the file FAILING, nor its log while there is the file FAILING_DATA."""
+UNREPLACED = f"""
+import errno, os
+from b3store import redo_log
+replace, redo_log.SECONDS_BETWEEN_TRIES = os.replace, 0.5
+def replace_or_fail(*given, **named):
+    if os.path.exists(os.environ["FAILING"]):
+        raise OSError(errno.EIO, os.strerror(errno.EIO))
+    replace(*given, **named)
+os.replace = replace_or_fail
+{RUN_SERVER}
+"""
+"""A server that can't replace its log while there is the file FAILING, and soon tries again."""
+UNREADABLE = f"""
+import errno, os
+from b3store import redo_log
+def fail(*_):
+    raise OSError(errno.EIO, os.strerror(errno.EIO))
+redo_log.send_line = fail
+{RUN_SERVER}
+"""
+"""A server whose disk fails when it restores."""
+NO_MEMORY = UNREADABLE.replace("OSError(errno.EIO, os.strerror(errno.EIO))", "MemoryError")
+"""A server that has no memory to restore."""
+
+
+def follows_clients(program: str) -> List[str]:
+    """What a client changes is in the log soon, for each word of --sync. The lines of the log are those of a session."""
+    found = []
+    for word in "always", "second", "no":
+        with save_folder() as folder:
+            with Running(program, "--save", folder, "--sync", word) as server, server.client() as client:
+                client.ask("tenant 5000")
+                address = client.file(b"abc").encode()
+                client.ask("limit 0 6")
+                lines = b"tenant 5000\nfileas 0 " + address + b" 3\nabclimit 0 6\n"
+                found += differences((is_logged(folder, lines), True), (log_of(folder), lines))
+                state = state_of(client)
+                server.signal(signal.SIGKILL)
+                server.status()
+            with Running(program, "--save", folder) as server:
+                found += differences((server.lines[0], "b3store.server: restored 1 object and 1 tenant; the last server was killed\n"), (server.end(), CLEAN))
+            found += differences((state_at(program, folder), state))
+    return found + differences((fails("--program", program, "--socket", "/tmp/none", "--sync", "never")[0], 2))
+
+
+class Writer(threading.Thread):
+    """A client that files objects and forgets most of them, until its connection ends."""
+
+    def __init__(self, server: Running, numbers: Tuple[int, ...]) -> None:
+        super().__init__()
+        self._client, self._numbers = server.client(), numbers
+        self.filed: Dict[str, float] = {}
+        """What was filed and isn't forgotten, and when it was answered."""
+        self.sent: Set[bytes] = set()
+        """The hashes of all contents."""
+        self.start()
+
+    def run(self) -> None:
+        part = 0
+        with contextlib.suppress(OSError, EOFError, IndexError), self._client as client:
+            while True:
+                part += 1
+                content = content_of(*self._numbers, part) * (20_000 if part % 8 else 1)
+                self.sent.add(hashlib.sha256(content).digest())
+                self.filed[client.file(content)] = time.monotonic()
+                if len(self.filed) > 10:
+                    address = next(iter(self.filed))
+                    del self.filed[address]
+                    client.ask(f"forget 0 {address}")
+
+
+def kills_beside_writers(program: str) -> List[str]:
+    """Whenever a server or its store is killed, what was filed more than the interval before is restored, and nothing is restored that wasn't filed or has
+    other bytes. Meanwhile the log is written anew."""
+    chance, found, anew = random.Random(9), [], 0
+    writers: List[Writer] = []
+    sent: Set[bytes] = set()
+    with save_folder() as folder:
+        for number in range(KILLS):
+            word, seconds = ("second", 2.5) if number % 5 == 4 else ("always", 0.7)
+            with Running(program, "--save", folder, "--sync", word) as server:
+                with server.client() as client:
+                    client.ask(f"tenant {1 << 40}")
+                    restored = [row.split()[0].decode() for row in client.ask("list 0").splitlines()[1:]]
+                    contents = [client.ask(f"fetchb 0 {address}").partition(b"\n")[2] for address in restored]
+                    found += [f"an object is wrong after kill {number}" for content in contents if hashlib.sha256(content).digest() not in sent]
+                    for address in restored:
+                        client.ask(f"forget 0 {address}")
+                missing = {address for writer in writers for address, at in writer.filed.items() if at < killed - late} - {*restored}
+                found += [f"{len(missing)} objects are missing after kill {number}"] if missing else []
+                inode = os.stat(f"{folder}/log").st_ino
+                writers = [Writer(server, (number, writer)) for writer in range(WRITERS)]
+                time.sleep(seconds + chance.uniform(0, 1))
+                killed, late = time.monotonic(), seconds
+                os.kill(server.store() if number % 3 == 2 else server.process.pid, signal.SIGKILL)
+                server.status()
+                for writer in writers:
+                    writer.join(SECONDS)
+                    sent |= writer.sent
+                anew += os.stat(f"{folder}/log").st_ino != inode
+    return found[:5] + differences((anew > 2, True), (len(sent) > KILLS * WRITERS, True))
+
+
+def writes_anew(program: str) -> List[str]:
+    """A log of which the store has less than half is written anew, while the server runs and after a restart; one that isn't long stays."""
+    with save_folder() as folder:
+        with Running(program, "--save", folder, "--sync", "always") as server, server.client() as client:
+            client.ask("tenant 100000000")
+            client.ask("tenant 100000000")
+            addresses = [client.file(b"%d" % number * 300_000) for number in range(9)]
+            client.file(b"shared" * 9, 1)
+            inode = os.stat(f"{folder}/log").st_ino
+            found = differences((is_logged(folder, b"shared" * 9), True), (os.stat(f"{folder}/log").st_ino, inode))
+            for address in addresses[:7]:
+                client.ask(f"forget 0 {address}")
+            found += differences((wait_until(lambda: os.stat(f"{folder}/log").st_size < 1_400_000), True), (os.listdir(folder), ["log"]))
+            late = client.file(b"late").encode()
+            state = state_of(client)
+            found += differences((is_logged(folder, late), True))
+            server.signal(signal.SIGKILL)
+            server.status()
+        found += differences((state_at(program, folder), state))
+        with open(f"{folder}/log", "ab") as file:
+            # the second of each two is refused S12
+            file.write(b"fileas 0 %s 300000\n%sforget 0 %s\nforget 0 %s\n" % (addresses[0].encode(), b"0" * 300_000, *[addresses[0].encode()] * 2) * 6)
+        with Running(program, "--save", folder) as server:
+            found += differences((wait_until(lambda: os.stat(f"{folder}/log").st_size < 700_000), True), (server.end(), CLEAN))
+    return found
+
+
+def replacements_that_fail(program: str) -> List[str]:
+    """If a log can't be written anew, that is reported once, the old one is extended, and it is tried again."""
+    with save_folder() as folder:
+        failing = append_to(f"{folder}-failing")
+        words = ("--save", folder, "--sync", "always")
+        with Running(program, *words, python=["-c", UNREPLACED], FAILING=failing) as server, server.client() as client:
+            client.ask("tenant 100000000")
+            for address in [client.file(b"%d" % number * 300_000) for number in range(9)][:8]:
+                client.ask(f"forget 0 {address}")
+            told = f"b3store.server: the long log in {folder} can't be written anew: Input/output error; the server tries again\n"
+            found = differences((wait_until(lambda: server.reported() == told), True))
+            client.file(b"late")
+            state = state_of(client)
+            time.sleep(1)
+            found += differences((is_logged(folder, b"late"), True), (os.stat(f"{folder}/log").st_size > 1 << 20, True))
+            os.unlink(failing)
+            found += differences((wait_until(lambda: os.stat(f"{folder}/log").st_size < 1 << 20), True), (server.reported(), told))
+            server.signal(signal.SIGKILL)
+            server.status()
+        return found + differences((state_at(program, folder), state))
+
+
+def kills_while_written_anew(program: str) -> List[str]:
+    """A server that is killed at each step of that, one after the other, loses nothing."""
+    found, statuses = [], []
+    while statuses[-1:] != [0] and len(statuses) < 60:
+        with save_folder() as folder:
+            words = ("--save", folder, "--sync", "always")
+            with Running(program, *words, python=["-c", STEPS], STEPS=str(len(statuses))) as server, server.client() as client:
+                client.ask("tenant 100000000")
+                address = client.file(bytes(2_000_000))
+                kept = client.file(b"kept")
+                found += differences((is_logged(folder, b"kept"), True))
+                client.send(f"forget 0 {address}\n".encode())
+                wait_until(lambda: server.process.poll() is not None or os.stat(f"{folder}/log").st_size < 1_000_000)
+                with contextlib.suppress(OSError):
+                    client.ends()
+                    server.signal()
+                statuses.append(server.status())
+            found += differences((state_at(program, folder)["list 0"].splitlines()[1:], [f"{kept} 4".encode()]), (set(os.listdir(folder)) <= {"log", "log.new"}, True))
+    return found[:5] + differences((set(statuses[:-1]), {-signal.SIGKILL}), (statuses[-1], 0), (len(statuses) > 6, True))
+
+
+SMALL = b"tenant 9\nfileas 0 6437b3ac38465133ffb63b75273a8db548c558465d79db03fd359c6cd5bd9d85 3\nabclimit 0 8\n"
+SMALL += b"forget 0 6437b3ac38465133ffb63b75273a8db548c558465d79db03fd359c6cd5bd9d85\nlimit 0 7\n"
+ENDS = [0, 9, 88, 98, 172, 182]
+"""A small log, and where its lines end."""
+
+
+def torn_ends(program: str) -> List[str]:
+    """A log that ends at any byte is restored up to its last complete line. The others are removed, which is reported, and what is appended follows."""
+    found = []
+    for length in range(len(SMALL) + 1):
+        with save_folder() as folder:
+            os.mkdir(folder)
+            with open(f"{folder}/log", "wb") as file:
+                file.write(SMALL[:length])
+            reported: List[str] = []
+            log, store, whole = RedoLog(folder, reported.append), StoreProcess(), max(end for end in ENDS if end <= length)
+            try:
+                store.start(program, 1, 1 << 30)
+                log.restore(store, lambda: None)
+                told = f"{folder}/log ended within a line: its last {length - whole} byte{'s are' if length - whole > 1 else ' is'} removed"
+                found += differences((reported, [told] if length > whole else []), (log_of(folder), SMALL[:whole]))
+                store.answer(b"tenant 5")
+                log.follow(store)
+                found += differences((log_of(folder), SMALL[:whole] + b"tenant 5\n"))
+            finally:
+                store.close()
+    return found[:5] + differences((len(SMALL), ENDS[-1]))
+
+
+def logs_that_are_changed(program: str) -> List[str]:
+    """A log that is removed, replaced or truncated while the server runs is written anew; what another program appends is removed."""
+    found = []
+
+    def append(path: str) -> None:
+        with open(path, "ab") as file:
+            file.write(b"another")
+
+    for change in os.unlink, lambda path: os.rename(append_to(f"{path}-other"), path), lambda path: os.truncate(path, 20), append:
+        with save_folder() as folder, Running(program, "--save", folder) as server, server.client() as client:
+            client.ask("tenant 100000000")
+            for number in range(4):
+                client.file(b"%d" % number * 300_000)
+            found += differences((is_logged(folder, b"3" * 300_000), True))
+            change(f"{folder}/log")
+            address = client.file(b"more").encode()
+            state = state_of(client)
+            found += differences((is_logged(folder, address), True))
+            server.signal(signal.SIGKILL)
+            server.status()
+            found += differences((server.reported(), ""), (state_at(program, folder), state))
+    return found
+
+
+def _damaged(log: bytes) -> Iterator[Tuple[bytes, str]]:
+    """Logs in place of one, and what the message says."""
+    yield b"<html>\n" * 100, "log: line 1, at byte 0, is no line of a log; nothing was changed; `truncate -s 0`"
+    yield b"kept", "log: line 1, at byte 0, is no line of a log"
+    yield bytes(4096), "log: line 1, at byte 0, is no line of a log"
+    yield log + b"\n", f", at byte {len(log)}, is no line of a log; nothing was changed; `truncate -s {len(log)}`"
+    yield log + b"list 0\n", f", at byte {len(log)}, is no line of a log"
+    yield log + b"limit 0 " + b"1" * 300, f", at byte {len(log)}, is no line of a log"
+    yield log + b"limit 7 5\n", f", at byte {len(log)}, is answered 'refused S1'"
+    yield log + b"tenant 99999999999999999999\n", f", at byte {len(log)}, is answered 'bad'"
+    yield log[log.index(b"\n") + 1 :], "log: line 1, at byte 0, is answered 'refused S1'"
+    yield flipped(log, log.index(bytes(100)) + 50), "is answered 'refused S11"
+    yield flipped(log, log.index(b"fileas") + 20), "log: line 2, at byte 15, is "
+
+
+def damaged_logs(program: str) -> List[str]:
+    """A line that is wrong or refused is named in a message, the status is 1, and nothing in the folder changes."""
+    found = []
+    with save_folder() as folder:
+        fill_folder(program, folder)
+        for log, wanted in _damaged(log_of(folder)):
+            with open(f"{folder}/log", "wb") as file:
+                file.write(log)
+            before = files_in(folder)
+            status, told = fails("--program", program, "--socket", f"{folder}-socket", "--save", folder)
+            found += differences((status, 1), (wanted in told and told.count("\n") == 1, True), (files_in(folder), before))
+    return found[:5]
+
+
+def logs_that_cannot_be_read(program: str) -> List[str]:
+    """If the log can't be read, or there is no memory for that, a message says so, the status is 1, and nothing in the folder changes."""
+    found = []
+    with save_folder() as folder:
+        fill_folder(program, folder)
+        files, wanted = files_in(folder), f"b3store.server: the store that is saved in {folder}/log can't be restored: "
+        for script, reason in (UNREADABLE, "Input/output error\n"), (NO_MEMORY, "out of memory\n"):
+            with Running(program, "--save", folder, python=["-c", script]) as server:
+                found += differences((server.status(), 1), (server.reported(), wanted + reason), (files_in(folder), files), (server.left(), []))
+    return found
+
+
+def _cannot_write(program: str, folder: str, fill: Any, free: Any, **more: Any) -> List[str]:
+    """While there is no room, clients are served, and a kill loses only what was filed since. Then the log gets all of that."""
+    with Running(program, "--save", folder, **more) as server, server.client() as client:
+        client.ask("tenant 5000000")
+        first = client.file(b"first")
+        found = differences((is_logged(folder, first.encode()), True))
+        fill(server)
+        for number in range(3):
+            client.file(b"%d" % number * 150_000)
+        told = f"b3store.server: the log in {folder} can't be written: "
+        found += differences((wait_until(lambda: told in server.reported()), True))
+        time.sleep(2)
+        copy = f"{tempfile.mkdtemp(dir=server.folder)}/saved"
+        shutil.copytree(folder, copy)
+        rows, all_rows = (state["list 0"].splitlines()[1:] for state in (state_at(program, copy), state_of(client)))
+        found += differences((rows, all_rows[: len(rows)]), (0 < len(rows) < 4, True))
+        shutil.rmtree(os.path.dirname(copy))
+        free(server)
+        last = client.file(b"last").encode()
+        state = state_of(client)
+        found += differences((is_logged(folder, last), True), (wait_until(lambda: " is written again\n" in server.reported()), True))
+        found += differences((server.reported().count("\n"), 2))
+        server.signal(signal.SIGKILL)
+        server.status()
+    return found + differences((state_at(program, folder), state))
+
+
+def _limits(server: Running, length: int) -> None:
+    """Lets a server write files of some length."""
+    hard = resource.prlimit(server.process.pid, resource.RLIMIT_FSIZE)[1]
+    resource.prlimit(server.process.pid, resource.RLIMIT_FSIZE, (hard if length < 0 else length, hard))
+
+
+def full_disks(program: str) -> List[str]:
+    """A write that fails is reported once, and leaves what was written before; once there is room, the log gets the rest."""
+    with save_folder() as folder:
+        found = _cannot_write(program, folder, lambda server: _limits(server, 200_000), lambda server: _limits(server, -1))
+    with tempfile.TemporaryDirectory() as disk:
+        if subprocess.run(["mount", "-t", "tmpfs", "-o", "size=900k", "none", disk], stderr=subprocess.DEVNULL).returncode:
+            return found
+        try:
+            other = os.path.join(disk, "other")
+
+            def fill(_: Running) -> None:
+                with open(other, "wb") as file:
+                    file.write(bytes(700_000))
+
+            return found + _cannot_write(program, os.path.join(disk, "saved"), fill, lambda _: os.unlink(other))
+        finally:
+            subprocess.run(["umount", disk], check=True)
+
+
+def syncs_that_fail(program: str) -> List[str]:
+    """If the log can't be synced, the system may have lost what was written: it is written again. If the folder can't be synced, that is tried again too."""
+    found = []
+    with save_folder() as folder:
+        failing, failing_data = f"{folder}-failing", f"{folder}-data"
+        words = {"python": ["-c", UNSYNCED], "FAILING": failing, "FAILING_DATA": failing_data}
+        with Running(program, "--save", folder, **words) as server, server.client() as client:  # type: ignore[arg-type]
+            client.ask("tenant 5000000")
+            client.file(b"first")
+            found += differences((is_logged(folder, b"first"), True))
+            time.sleep(2)
+            for path in failing_data, failing:
+                append_to(path)
+                if path == failing:
+                    os.unlink(f"{folder}/log")
+                client.file(path.encode())
+                told = f"b3store.server: the log in {folder} can't be written: Input/output error; the server tries again\n"
+                found += differences((wait_until(lambda told=told: told in server.reported()), True))
+                os.unlink(path)
+                found += differences((wait_until(lambda: server.reported().endswith(" is written again\n")), True), (is_logged(folder, path.encode()), True))
+            state = state_of(client)
+            server.signal(signal.SIGKILL)
+            server.status()
+        return found + differences((state_at(program, folder), state))
+
+
+LOGS = (
+    ("a log that follows clients", follows_clients),
+    ("kills beside writers", kills_beside_writers),
+    ("a log that is written anew", writes_anew),
+    ("logs that can't be replaced", replacements_that_fail),
+    ("kills while a log is written anew", kills_while_written_anew),
+    ("torn ends of a log", torn_ends),
+    ("logs that are changed", logs_that_are_changed),
+    ("damaged logs", damaged_logs),
+    ("logs that can't be read", logs_that_cannot_be_read),
+    ("logs on a full disk", full_disks),
+    ("logs that can't be synced", syncs_that_fail),
+)
