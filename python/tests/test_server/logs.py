@@ -145,7 +145,8 @@ def kills_beside_writers(program: str) -> List[str]:
     sent: Set[bytes] = set()
     with save_folder() as folder:
         for number in range(KILLS):
-            word, seconds = ("second", 2.5) if number % 5 == 4 else ("always", 0.7)
+            # with --sync always it takes much less, but for a busy machine
+            word, seconds = ("second", 2.5) if number % 5 == 4 else ("always", 2.0)
             with Running(program, "--save", folder, "--sync", word) as server:
                 with server.client() as client:
                     client.ask(f"tenant {1 << 40}")
