@@ -19,20 +19,25 @@ if TYPE_CHECKING:
 
     from .asynchronous import AsyncStore
     from .client import Client
+    from .redo import LogError, renew
+    from .redo_log import RedoLog, SaveError
     from .store import Store
     from .transfers import StoredObject, Upload
     from .values import (
-        CHUNK_LEN, MAX_LIMIT, MAX_NUMBER, MAX_PART_LEN, MAX_SESSIONS, MAX_UPLOAD_LEN, PART_LEN, RANGE_LEN, REFUSALS, Counts, Ended, Filed, Held,
-        ObjectRow, OpenUpload, Refused, StoreError, Totals, Usage,
+        CHUNK_LEN, MAX_LIMIT, MAX_NUMBER, MAX_PART_LEN, MAX_SESSIONS, MAX_UPLOAD_LEN, PART_LEN, RANGE_LEN, REFUSALS, Counts, Ended, Filed, Held, ObjectPage,
+        ObjectRow, OpenUpload, Redone, Refused, StoreError, Totals, Usage,
     )
 
 __all__ = [
     "CHUNK_LEN", "MAX_LIMIT", "MAX_NUMBER", "MAX_PART_LEN", "MAX_SESSIONS", "MAX_UPLOAD_LEN", "PART_LEN", "RANGE_LEN", "REFUSALS",
-    "AsyncStore", "Client", "Counts", "Ended", "Filed", "Held", "ObjectRow", "OpenUpload", "Refused", "Store", "StoreError", "StoredObject", "Totals",
-    "Upload", "Usage",
+    "AsyncStore", "Client", "Counts", "Ended", "Filed", "Held", "LogError", "ObjectPage", "ObjectRow", "OpenUpload", "RedoLog", "Redone", "Refused",
+    "SaveError", "Store", "StoreError", "StoredObject", "Totals", "Upload", "Usage", "renew",
 ]
 __version__ = "1.0"
-_MODULES = {"AsyncStore": "asynchronous", "Client": "client", "Store": "store", "StoredObject": "transfers", "Upload": "transfers"}
+_MODULES = {
+    "AsyncStore": "asynchronous", "Client": "client", "LogError": "redo", "RedoLog": "redo_log", "SaveError": "redo_log", "Store": "store",
+    "StoredObject": "transfers", "Upload": "transfers", "renew": "redo",
+}
 """Where a name is defined, unless that is `values`."""
 
 

@@ -240,7 +240,7 @@ def has_one(store: Client, tenant: int, address: str) -> int:
 
 def ls(store: Client, words: Any) -> int:
     """Prints the address and the length of each object that the tenant holds."""
-    for row in store.objects(tenant_of(store, words)):
+    for row in store.list(tenant_of(store, words)).items():
         print(*row)
     return 0
 

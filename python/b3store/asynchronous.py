@@ -11,8 +11,8 @@ from .values import MAX_SESSIONS, RANGE_LEN, Filed, check_number
 Value = TypeVar("Value")
 
 METHODS = frozenset((
-    "abort", "begin", "begin_open", "counts", "entries", "fetch", "fetch_into", "file", "file_all", "fix", "forget", "forget_all", "has", "limit", "list", "put",
-    "size", "stat", "tenant", "tenants", "upload", "uploads", "usage",
+    "abort", "begin", "begin_open", "counts", "entries", "fetch", "fetch_into", "file", "file_all", "fix", "forget", "forget_all", "has", "limit", "list",
+    "objects", "put", "redo", "run_lines", "size", "stat", "tenant", "tenants", "upload", "uploads", "usage",
 ))
 """The methods of a store that are coroutine functions of its AsyncStore."""
 

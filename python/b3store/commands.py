@@ -1,13 +1,14 @@
 """The commands of a store, as lines: of a server (client.py), or of the library (store.py)."""
 import contextlib
+import sys
 from types import TracebackType
-from typing import Callable, Dict, Iterable, Iterator, List, Optional, Sequence, Tuple, Type, TypeVar
+from typing import Callable, Dict, Iterator, List, Optional, Sequence, Tuple, Type, TypeVar
 
 from .sessions import MAX_AHEAD_LINES, Kinds, Session, not_blocking, write_all, write_slowly
 from .values import (
-    MAX_UPLOAD_LEN, PART_LEN, RANGE_LEN, Buffer, Counts, Filed, Held, ObjectRow, OpenUpload, Refused, Totals, Usage, check_address, check_bytes, check_number,
-    check_room, check_seconds, half_of_memory, parse_asked, parse_count, parse_digits, parse_held, parse_labelled, parse_length, parse_number, parse_object,
-    parse_open_upload, parse_usage,
+    MAX_REDONE, MAX_UPLOAD_LEN, PART_LEN, RANGE_LEN, Buffer, Counts, Filed, Held, ObjectPage, OpenUpload, Redone, Refused, Totals, Usage, check_address,
+    check_bytes, check_number, check_room, check_seconds, half_of_memory, parse_asked, parse_count, parse_digits, parse_held, parse_labelled, parse_length,
+    parse_number, parse_object, parse_open_upload, parse_usage,
 )
 
 Key = TypeVar("Key")
@@ -26,9 +27,6 @@ class Commands:
     def _in_turn(self, work: Callable[[Session], Value]) -> Value:
         """What a function returns for a session, which nothing else uses meanwhile."""
         raise NotImplementedError
-
-    def _note(self, fault: BaseException) -> None:
-        """Notes that an answer makes no sense."""
 
     def close(self) -> None:
         """Ends the use of the store."""
@@ -190,18 +188,17 @@ class Commands:
         """Returns the lengths of the objects that a tenant holds, by address, in the order in which they were filed. Refusals: S1, S14."""
         return self._table(parse_object, "list", f"list {check_number('tenant', tenant)}")
 
-    def objects(self, tenant: int) -> Iterator[ObjectRow]:
-        """Yields the objects that a tenant holds, as of one moment, in the order in which they were filed. Refusals: S1, S14."""
-        return self._object_rows(self._lines("list", f"list {check_number('tenant', tenant)}"))
+    def objects(self, tenant: int, first: int = 0, count: int = MAX_REDONE) -> ObjectPage:
+        """Returns up to `count` of the objects that a tenant holds, in the order in which they were filed: those with a number from `first` on. To list all in
+        pages, begin with 0, and go on with `next` until there are fewer than `count`. Refusals: S1, S14."""
+        count = check_number("count", count)
+        line = f"objects {check_number('tenant', tenant)} {check_number('first', first)} {count}"
 
-    def _object_rows(self, rows: Iterable[str]) -> Iterator[ObjectRow]:
-        for row in rows:
-            try:
-                found = parse_object(*row.split(" "))
-            except (TypeError, ValueError) as fault:
-                self._note(fault)
-                raise
-            yield found
+        def read(session: Session, words: List[str]) -> ObjectPage:
+            following, rows = words
+            return ObjectPage(parse_digits(following), [parse_object(*session.line()) for _ in range(parse_count([rows], count))])
+
+        return self._talk(read, "objects", line)
 
     def uploads(self, tenant: int) -> List[OpenUpload]:
         """Returns a tenant's open uploads, in the order of their numbers. Refusals: S1, S14."""
@@ -235,6 +232,21 @@ class Commands:
             if len(page) < page_len:
                 return
             start += page_len
+
+    def redo(self, first: int, count: int = MAX_REDONE) -> Redone:
+        """Returns lines that redo on another store what up to `count` entries of the journal, from number `first` on, have done, and the number of the entry
+        after these. What tenants still hold comes with its bytes: up to 4 MiB, or one object. `run_lines` runs them. Refusals: S14."""
+        line = redo_line(first, count)
+        return self._talk(lambda session, words: Redone(parse_digits(words[0]), session.content(words[1:], sys.maxsize)), "redo", line)
+
+    def _redo_to(self, write: Callable[[memoryview], None], first: int, count: int) -> int:
+        """The same, but passes the lines in pieces to a function, which must raise nothing. Returns the number of the entry after those."""
+
+        def read(session: Session, words: List[str]) -> int:
+            session.content_to(words[1:], write)
+            return parse_digits(words[0])
+
+        return self._talk(read, "redo", redo_line(first, count))
 
     def _put_all(self, upload: int, offset: int, parts: List[memoryview]) -> None:
         """Puts parts one after another in one turn, and sends ahead of the answers."""
@@ -275,6 +287,11 @@ class Commands:
     def _talk(self, read: Callable[[Session, List[str]], Value], kinds: Kinds, line: str, content: Buffer = b"") -> Value:
         """The same for a session and the words of an answer."""
         return self._in_turn(lambda session: read(session, session.ask(kinds, line, content)))
+
+
+def redo_line(first: int, count: int) -> str:
+    """The command that asks for lines that redo entries."""
+    return f"redo {check_number('first', first)} {check_number('count', count)}"
 
 
 def fetch_line(tenant: int, address: str, offset: int, length: int) -> str:

@@ -1,44 +1,36 @@
-"""A folder that has a log of the store, from which a server restores it (`--save FOLDER`).
+"""A folder that has a log of a store, from which the store is restored: that of a server (`--save FOLDER`), or one in this process.
 
-The file `log` has lines of a session, as the store gives them for `redo` (docs/COMMANDS.md): run by a session of an empty store, they restore the tenants,
-their limits, the objects and their holders. The server appends what was changed since the last time, and syncs that. A log of which the store has less than
-half is written anew to `log.new`, which then replaces it. The file `clean` is there if the server has ended after a signal, and the log has everything.
+The file `log` has lines of a session, as the store gives them for `redo` (docs/COMMANDS.md): an empty store that runs them has the tenants, their limits, the
+objects and their holders. What was changed since the last time is appended and synced. A log of which the store has less than half is written anew to
+`log.new`, which then replaces it. The file `clean` is there if the log was finished, and has everything.
 
-The folder must belong to the server's user, and no other user may write to it. Its files are opened by its descriptor, and no link in it is followed."""
-import collections
+The folder must belong to this process's user, and no other user may write to it. Its files are opened by its descriptor, and no link in it is followed."""
 import contextlib
-import itertools
 import math
 import os
-import re
 import stat
 import threading
 import time
-from typing import BinaryIO, Callable, Deque, NamedTuple, Optional, Set, Tuple
+from typing import BinaryIO, Callable, NamedTuple, Optional, Set
 
+from . import TYPE_CHECKING
 from .console import count_text
 from .files import FolderInUse, create_anew, lock_folder, opener_in
-from .server_store import StoreProcess
-from .sessions import Session
-from .values import Counts, Refused, StoreError
+from .redo import LogError, Tick, renew, run_lines
+from .transfers import Transfers
+from .values import MAX_REDONE, Counts, Ended, Refused, StoreError
+
+if TYPE_CHECKING:
+    from .store import Store
 
 LOG = "log"
 NEW_LOG = "log.new"
 CLEAN = "clean"
 IGNORED = frozenset((NEW_LOG, CLEAN, "lost+found"))
 """Names that a folder without a log may have: what a server that was killed leaves, and what a new file system has."""
-LINE = re.compile(rb"(?:tenant [0-9]{1,20}|limit [0-9]{1,20} [0-9]{1,20}|forget [0-9]{1,20} [0-9a-f]{64}|fileas [0-9]{1,20} [0-9a-f]{64} ([0-9]{1,14}))\n")
-WORDS = (b"tenant ", b"limit ", b"forget ", b"fileas ")
-DONE = ("tenant", "ok", "new", "known")
-"""The first words of answers to lines that were run."""
-MAX_LINE_LEN = 1 << 8
 LINE_LEN = 88
 """About how long a line of a log is."""
-PIECE_LEN = 1 << 20
-MAX_AHEAD = 40
-"""How many lines are sent before the first one's answer is read. Their answers fit into the smallest pipe, of 4096 bytes: Linux gives such ones to a user who
-has many."""
-COUNTS = (1 << 12, 1 << 6, 1)
+COUNTS = (MAX_REDONE, 1 << 6, 1)
 """How many entries are redone at once: fewer if the store has no memory for more."""
 SYNC_LEN = 1 << 28
 """How many bytes are written between two syncs."""
@@ -50,11 +42,8 @@ SECONDS_BETWEEN_TRIES = 60.0
 """How long after a log couldn't be written anew this is tried again."""
 MAX_ROUNDS = 3
 """How often a store is saved that is changed meanwhile."""
-ERRORS = (OSError, StoreError, MemoryError)
+ERRORS = (OSError, StoreError, MemoryError, ValueError)
 """What can fail."""
-
-Tick = Callable[[], None]
-"""Is called again and again while there is progress."""
 
 
 class SaveError(StoreError):
@@ -90,7 +79,6 @@ class LogFile:
     def __init__(self, file: BinaryIO) -> None:
         self._file = file
         self.length, self.entry = self._synced = 0, 0
-        self._room = memoryview(bytearray(PIECE_LEN))
 
     def status(self) -> os.stat_result:
         return os.fstat(self._file.fileno())
@@ -107,7 +95,7 @@ class LogFile:
         self.length, self.entry = self._synced = length, entry
         return torn
 
-    def extend(self, store: StoreProcess, target: int, tick: Tick, end: float = math.inf) -> bool:
+    def extend(self, store: Transfers, target: int, tick: Tick, end: float = math.inf) -> bool:
         """Appends the lines that redo the entries up to number `target`, and maybe further ones. False if there wasn't enough time. Bytes that belong to no
         answer, as after an error, are removed."""
         if self.status().st_size > self.length:
@@ -123,6 +111,11 @@ class LogFile:
             raise
         return self.entry >= target
 
+    def goes_on(self, entry: int) -> None:
+        """Goes on with this entry of another store, which has all that the log has. The log must be synced."""
+        self.entry = entry
+        self._synced = self.length, entry
+
     def sync(self) -> None:
         """Syncs what was written since the last time. If that fails, it will be written again: the system may have dropped it."""
         if self._synced == (self.length, self.entry):
@@ -134,46 +127,50 @@ class LogFile:
             raise
         self._synced = self.length, self.entry
 
-    def _append(self, store: StoreProcess, tick: Tick) -> None:
+    def _append(self, store: Transfers, tick: Tick) -> None:
         """Appends one answer of the store."""
+        end, fault = self.length, None
+
+        def write(piece: memoryview) -> None:
+            # all pieces have to be read, as others use the session too
+            nonlocal end, fault
+            try:
+                if fault is None:
+                    write_at(self._file.fileno(), piece, end)
+            except OSError as error:
+                fault = error
+            end += piece.nbytes
+            tick()
+
         for count in COUNTS:
             try:
-                with store.own_session() as session:
-                    next_entry, end, fault = session._in_turn(lambda session, count=count: self._copy(session, count, tick))  # type: ignore[misc]
+                following = store._redo_to(write, self.entry, count)
                 break
             except Refused:
                 if count == COUNTS[-1]:
                     raise
         if fault is not None:
             raise fault
-        if next_entry <= self.entry:
+        if following <= self.entry:
             raise SaveError(f"the store doesn't redo entry {self.entry}")
-        self.length, self.entry = end, next_entry
-
-    def _copy(self, session: Session, count: int, tick: Tick) -> Tuple[int, int, Optional[OSError]]:
-        """Writes an answer's bytes to the end of the file. Returns the next entry, where the bytes end, and why they can't be written: all are read, as others
-        use the session too."""
-        next_entry, length = map(int, session.ask("redo", f"redo {self.entry} {count}"))
-        at, end, fault = self.length, self.length + length, None
-        while at < end:
-            piece = self._room[: end - at]
-            session.content_into([str(len(piece))], piece, len(piece))
-            try:
-                if fault is None:
-                    write_at(self._file.fileno(), piece, at)
-            except OSError as error:
-                fault = error
-            at += len(piece)
-            tick()
-        return next_entry, end, fault
+        self.length, self.entry = end, following
 
 
 class RedoLog:
-    """A folder that is locked until the process ends, and the log in it."""
+    """A folder that is locked until the process ends, and the log in it.
+
+        log = RedoLog("folder", print)
+        log.restore(store)
+        while is_running:
+            log.follow(store)
+            time.sleep(1)
+        log.finish(store)
+
+    `follow`, `finish` and `renew` take turns, if threads call them; other threads may use the store meanwhile."""
 
     def __init__(self, path: str, report: Callable[[str], None], syncs: bool = True) -> None:
-        """Opens a folder, which is made if there is none. Raises SaveError, and changes nothing, if another server has it, or if it has other files and no
-        log. If `syncs` is false, only `finish` syncs the log, and what is long."""
+        """Opens a folder, which is made if there is none. Raises SaveError, and changes nothing, if another process has it, or if it has other files and no
+        log. If `syncs` is false, only `finish` syncs the log, and what is long. `report` is called with a line about what goes wrong later."""
         self._report, self._syncs = report, syncs
         self._folder = open_folder(path)
         self._lock = threading.Lock()
@@ -200,28 +197,30 @@ class RedoLog:
         create_anew(self._folder.number, NEW_LOG).close()
         os.unlink(NEW_LOG, dir_fd=self._folder.number)
 
-    def restore(self, store: StoreProcess, tick: Tick) -> Optional[str]:
-        """Restores the store into a new one, and returns what it has; None if it has nothing. Removes an incomplete line at the log's end. Raises SaveError;
-        then nothing was changed."""
+    def restore(self, store: Transfers, tick: Tick = lambda: None) -> Optional[str]:
+        """Restores the store into a new one, and returns what it has; None if it has nothing. Removes an incomplete line at the log's end, and reports objects
+        that are damaged, which aren't restored. Raises SaveError; then nothing in the folder was changed."""
         path = f"{self._folder.path}/{LOG}"
         try:
-            with store.own_session() as session, self._folder.open(LOG) as file:
-                length = session._in_turn(lambda session: run_lines(session, file, path, tick))
-                counts = session.counts()
+            with self._folder.open(LOG) as file:
+                length = run_lines(store, file, tick, lambda error: self._report(f"{path}: {error}: this object is damaged, and not restored"))
+            counts = store.counts()
             torn = self._log.begin(length, counts.entries)
             for name in NEW_LOG, CLEAN:
                 with contextlib.suppress(FileNotFoundError):
                     os.unlink(name, dir_fd=self._folder.number)
-        except SaveError:
-            raise
+        except LogError as error:
+            advice = f"nothing was changed; `truncate -s {error.offset}` would keep the lines before it"
+            raise SaveError(f"{path}: {error}; {advice}") from None
         except ERRORS as error:
             raise SaveError(f"the store that is saved in {path} can't be restored: {reason_of(error)}") from None
         if torn:
             self._report(f"{path} ended within a line: its last {count_text(torn, 'byte')} {'is' if torn == 1 else 'are'} removed")
-        return (counts_text(counts) + ("" if self._is_clean else "; the last server was killed")) if counts.tenants else None
+        return (counts_text(counts) + ("" if self._is_clean else "; the last process was killed")) if counts.tenants else None
 
-    def follow(self, store: StoreProcess) -> bool:
-        """Appends what was changed, and writes the log anew for some time if that pays. What fails is reported once. Returns whether this isn't finished."""
+    def follow(self, store: Transfers) -> bool:
+        """Appends what was changed, and writes the log anew for half a second if that pays. What fails is reported once, unless the store has ended. Returns
+        whether the log is still being written anew."""
         with self._lock:
             if self._is_finished:
                 return False
@@ -230,35 +229,46 @@ class RedoLog:
                 if self._fault:
                     self._report(f"the log in {self._folder.path} is written again")
                 self._fault = ""
-            except Exception as error:  # whatever it is, the store is served
-                self._fault = self._reported(f"the log in {self._folder.path} can't be written: {reason_of(error)}", self._fault, store)
+            except Exception as error:  # whatever it is, the store is used further
+                self._fault = self._reported(f"the log in {self._folder.path} can't be written: {reason_of(error)}", self._fault, error)
                 return False
             try:
                 if self._new is not None or self._pays(store, counts):
                     self._write_anew(store, counts, lambda: None, time.monotonic() + SECONDS_OF_WRITING)
             except Exception as error:
                 self._next_try = time.monotonic() + SECONDS_BETWEEN_TRIES
-                self._fault_anew = self._reported(f"the long log in {self._folder.path} can't be written anew: {reason_of(error)}", self._fault_anew, store)
+                self._fault_anew = self._reported(f"the long log in {self._folder.path} can't be written anew: {reason_of(error)}", self._fault_anew, error)
             return self._new is not None
 
-    def _reported(self, fault: str, last: str, store: StoreProcess) -> str:
+    def _reported(self, fault: str, last: str, error: Exception) -> str:
         """Reports a fault, unless it is the last one that was reported, or the store has ended. Returns what was reported last."""
-        if fault == last or not store.is_usable():
+        if fault == last or isinstance(error, Ended):
             return last
-        self._report(f"{fault}; the server tries again")
+        self._report(f"{fault}; it is tried again")
         return fault
 
-    def finish(self, store: StoreProcess, tick: Tick) -> str:
-        """Appends what was changed, as the server ends, and returns what the store has. Raises SaveError; then the log is followed again."""
+    def renew(self, store: "Store") -> "Store":
+        """Returns what `renew` makes of a store: a new one, which the log follows from now on. Raises what `renew` or a write to the log raises."""
+        with self._lock:
+            self._drop_new()
+            self._append(store, lambda: None)
+            self._log.sync()
+            new = renew(store)
+            self._log.goes_on(new.counts().entries)
+            return new
+
+    def finish(self, store: Transfers, tick: Tick = lambda: None) -> str:
+        """Appends what was changed, syncs the log, and returns what the store has. Later calls of `follow` have no effect. Raises SaveError; then the log can be
+        followed again."""
         with self._lock:
             try:
                 for _ in range(MAX_ROUNDS):
                     self._append(store, tick)
-                    counts = counts_of(store)
+                    counts = store.counts()
                     if counts.entries <= self._log.entry:
                         break
                 else:
-                    self._report("clients that keep their pipes have changed the store while it was saved: the log may not have all of that")
+                    self._report("the store was changed again and again while it was saved: the log may not have all of that")
                 self._drop_new()
                 self._log.sync()
                 path = self._find()
@@ -273,9 +283,9 @@ class RedoLog:
             self._is_finished = True
             return counts_text(counts) + path
 
-    def _append(self, store: StoreProcess, tick: Tick) -> Counts:
+    def _append(self, store: Transfers, tick: Tick) -> Counts:
         """Appends all that was changed until now, and returns what the store had then. A log that was removed, replaced or truncated is written anew."""
-        counts = counts_of(store)
+        counts = store.counts()
         if not self._is_in_place():
             self._drop_new()
             self._find()
@@ -290,7 +300,7 @@ class RedoLog:
         return counts
 
     def _is_in_place(self) -> bool:
-        """Whether the log is still the one that the server writes."""
+        """Whether the log is still the one that was opened."""
         try:
             found = self._folder.status(LOG)
         except (OSError, SaveError):
@@ -306,19 +316,18 @@ class RedoLog:
         moved = os.readlink(f"/proc/self/fd/{number}")
         if is_at(number, moved):
             return f" in {moved}"
-        self._folder = open_folder(path, "is not the folder that the server had locked, which was removed: nothing is saved")
+        self._folder = open_folder(path, "is not the folder that was locked, which was removed: nothing is saved")
         os.close(number)
         return ""
 
-    def _pays(self, store: StoreProcess, counts: Counts) -> bool:
+    def _pays(self, store: Transfers, counts: Counts) -> bool:
         """Whether the log is more than twice as long as a new one would be, if it has a line for each object. Several may hold the same: then it has more."""
         half, lines_len = self._log.length / 2, LINE_LEN * (counts.objects + counts.tenants)
         if time.monotonic() < self._next_try or self._log.length <= self._min_len or half <= counts.bytes + lines_len:
             return False
-        with store.own_session() as session:
-            return half > sum(usage.used for usage in session.tenants().values()) + lines_len
+        return half > sum(usage.used for usage in store.tenants().values()) + lines_len
 
-    def _write_anew(self, store: StoreProcess, counts: Counts, tick: Tick, end: float = math.inf) -> None:
+    def _write_anew(self, store: Transfers, counts: Counts, tick: Tick, end: float = math.inf) -> None:
         """Writes a new log until it has all that the store had, and puts it in place of the old one; or writes some of it."""
         try:
             if self._new is None:
@@ -350,11 +359,6 @@ class RedoLog:
                 os.unlink(NEW_LOG, dir_fd=self._folder.number)
 
 
-def counts_of(store: StoreProcess) -> Counts:
-    with store.own_session() as session:
-        return session.counts()
-
-
 def counts_text(counts: Counts) -> str:
     """Says how much a store has."""
     return f"{count_text(counts.objects, 'object')} and {count_text(counts.tenants, 'tenant')}"
@@ -365,59 +369,6 @@ def write_at(file: int, content: memoryview, at: int) -> None:
     while content.nbytes:
         count = os.pwrite(file, content, at)
         content, at = content[count:], at + count
-
-
-def run_lines(session: Session, log: BinaryIO, path: str, tick: Tick) -> int:
-    """Runs the lines of a log by a session of an empty store, and returns their length, without an incomplete line at the end. Raises SaveError for a line that
-    is wrong or refused, but not for a `forget` of an object that is missing."""
-    size, at = os.fstat(log.fileno()).st_size, 0
-    sent: Deque[Tuple[int, int]] = collections.deque()
-    """The lines whose answers are due: the number of each, and where it begins."""
-
-    def wrong(number: int, start: int, fault: str) -> SaveError:
-        return SaveError(f"{path}: line {number}, at byte {start}, {fault}; nothing was changed; `truncate -s {start}` would keep the lines before it")
-
-    def check_answer() -> None:
-        words = session.line()
-        place = sent.popleft()
-        if words[0] not in DONE and words[:2] != ["refused", "S12"]:
-            raise wrong(*place, f"is answered {' '.join(words)!r}")
-
-    for number in itertools.count(1):
-        line = log.readline(MAX_LINE_LEN)
-        found = LINE.fullmatch(line)
-        end = at + len(line) + int(found[1] or 0 if found else 0)
-        if not found and not (end == size and may_begin(line)):
-            raise wrong(number, at, "is no line of a log")
-        if not found or end > size:
-            break
-        sent.append((number, at))
-        send_line(session, line, log, int(found[1] or 0), tick)
-        at = end
-        if len(sent) > MAX_AHEAD:
-            check_answer()
-    while sent:
-        check_answer()
-    return at
-
-
-def may_begin(part: bytes) -> bool:
-    """Whether a line of a log may begin with some bytes."""
-    return any(word.startswith(part) or part.startswith(word) and not part[len(word) :].strip(b"0123456789abcdef ") for word in WORDS)
-
-
-def send_line(session: Session, line: bytes, log: BinaryIO, length: int, tick: Tick) -> None:
-    """Sends a line, and the bytes that follow it in a log."""
-    piece = log.read(min(length, PIECE_LEN))
-    session.write(line, piece)
-    while len(piece) < length:
-        length -= len(piece)
-        piece = log.read(min(length, PIECE_LEN))
-        if not piece:
-            raise SaveError("the log is truncated while it is read")
-        session.write(piece)
-        tick()
-    tick()
 
 
 def reason_of(error: BaseException) -> str:
@@ -451,7 +402,7 @@ def check_safe(folder: Folder) -> None:
     """Raises SaveError if a folder belongs to another user, or others may write to it: they could replace what is saved."""
     found = os.fstat(folder.number)
     if found.st_uid != os.geteuid():
-        raise SaveError(f"{folder.path} belongs to another user: name a folder of the server's user")
+        raise SaveError(f"{folder.path} belongs to another user: name a folder of your own")
     if found.st_mode & (stat.S_IWGRP | stat.S_IWOTH):
         raise SaveError(f"{folder.path} can be written to by others: chmod go-w {folder.path}")
 

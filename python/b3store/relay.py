@@ -10,6 +10,7 @@ from typing import Any, Callable
 
 from .answers import Answers
 from .server_store import Pipes, StoreProcess
+from .values import Refused
 
 ASK_FOR_PIPES = b"pipes\n"
 """The first line of a client that wants its session's pipes, and the line that they come with. The store has no command of this name."""
@@ -111,7 +112,7 @@ class Connection:
         while True:
             line, newline, rest = text.partition(b"\n")
             if newline and BEGIN.fullmatch(line):
-                answer = self._store.answer(line)
+                answer = self._store.answer(line).encode() + b"\n"
                 self._see(memoryview(answer))
                 self.socket.sendall(answer)
                 text = rest
@@ -151,9 +152,8 @@ class Connection:
             return
         self._answers.read(bytes(answers))
         if len(self._answers.begun) > self._max_begun:
-            open_uploads = self._store.open_uploads()
-            if open_uploads is not None:
-                self._answers.begun &= open_uploads
+            with contextlib.suppress(Refused):
+                self._answers.begun &= {upload.number for tenant in self._store.tenants() for upload in self._store.uploads(tenant)}
             self._max_begun = max(MAX_BEGUN, 2 * len(self._answers.begun))
 
     def _wait_for_end(self, pipes: Pipes) -> None:
@@ -171,6 +171,8 @@ class Connection:
     def _abort(self) -> None:
         """Aborts the uploads. For one that was sealed or aborted this has no effect, since numbers are never reused."""
         for upload in sorted(self._answers.begun):
-            fault = self._store.abort(upload)
-            if fault is not None:
-                self._report(f"upload {upload} is not aborted: {fault}")
+            try:
+                self._store.abort(upload)
+            except Refused as refusal:
+                if refusal.number != "S7":
+                    self._report(f"upload {upload} is not aborted: {refusal}")

@@ -247,7 +247,7 @@ class Server:
         is_saved = self._log is None or self._save(self._log)
         if not is_saved and self._keeps_running():
             return None
-        status = self._store.close()
+        status = self._store.end()
         if self._store.timed.are_cut:
             report(f"the store did not answer for {SECONDS_OF_SILENCE:.0f} s, and was killed; {self._lost()}")
         elif status:

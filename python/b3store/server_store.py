@@ -14,12 +14,14 @@ import subprocess
 import tempfile
 import threading
 import time
-from typing import Any, Iterator, List, NamedTuple, Optional, Set
+from typing import Any, Callable, List, NamedTuple, Optional, TypeVar
 
 from .files import FolderInUse, lock_folder
-from .sessions import Session, Sessions, set_pipe_size
+from .sessions import Session, set_pipe_size
 from .transfers import Transfers
 from .values import Ended, Refused, StoreError
+
+Value = TypeVar("Value")
 
 SECONDS_TO_BEGIN = 30.0
 """How long the program may take to answer, and to open a session."""
@@ -62,6 +64,11 @@ class Pipes(NamedTuple):
                 os.remove(name)
 
 
+def has_ended(reason: str = "the store has ended") -> Ended:
+    """The error when the process has ended."""
+    return Ended(reason)
+
+
 def status_text(status: int) -> str:
     """An exit status in words."""
     names = {-number: number.name for number in signal.Signals}
@@ -101,19 +108,8 @@ class TimedAnswers(io.FileIO):
         return super().readinto(room)
 
 
-class OwnSession(Sessions, Transfers):
-    """The server's own session, with the methods of a store."""
-
-    def __init__(self, session: Session) -> None:
-        super().__init__()
-        self._add([session])
-
-    def close(self) -> None:
-        """Has no effect: the session ends with the store."""
-
-
-class StoreProcess:
-    """A running `b3store serve --at DOOR --sessions N`. Its standard input and output are the server's own session."""
+class StoreProcess(Transfers):
+    """A running `b3store serve --at DOOR --sessions N`. Its standard input and output are the server's own session, which the methods of a store use."""
 
     def __init__(self) -> None:
         """Makes the temporary folder of the door."""
@@ -144,6 +140,7 @@ class StoreProcess:
         assert self._process.stdin
         self._commands, self.timed = self._process.stdin, TimedAnswers(self._process)
         self._answers = io.BufferedReader(self.timed)
+        self._session = Session(self._commands, self._answers, has_ended)
         self._is_started = True
         try:
             self._commands.write(b"stat\n")
@@ -195,60 +192,40 @@ class StoreProcess:
             failing.pop_all()
         return pipes
 
-    def _ask(self, line: bytes) -> None:
-        """Sends a command. Raises StoreError if the store has ended."""
-        if self._is_closing:
-            raise StoreError("the store has ended")
-        try:
-            self._commands.write(line + b"\n")
-            self._commands.flush()
-        except OSError:
-            raise StoreError("the store has ended") from None
-
-    def _line(self) -> bytes:
-        """Reads a line, with its newline: to remove that needs memory, and without it the line would be lost."""
-        line = self._answers.readline()
-        if not line.endswith(b"\n"):
-            raise StoreError("the store has ended")
-        return line
-
-    @contextlib.contextmanager
-    def _exchange(self) -> Iterator[None]:
-        """Is held while commands are sent and their answers are read. What an error left unread, as when memory runs out, is read by the next exchange."""
+    def _in_turn(self, work: Callable[[Session], Value]) -> Value:
+        """What a function returns for the session, which nothing else uses meanwhile. What an error left unread, as when memory runs out, is read next time."""
         with self._lock:
+            if self._is_closing:
+                raise has_ended()
             if self._is_behind:
-                self._ask(b"stat")
-                self._due += 1
-                while self._due:
-                    self._due -= self._line().startswith(b"objects ")
+                self._catch_up()
             self._is_behind = True
-            yield
-            self._is_behind = False
-
-    @contextlib.contextmanager
-    def own_session(self) -> Iterator[Transfers]:
-        """The server's own session, which nothing else uses meanwhile."""
-        with self._exchange():
-            yield OwnSession(Session(self._commands, self._answers, lambda reason="the store has ended": Ended(reason)))
-
-    def answer(self, line: bytes) -> bytes:
-        """Sends a command whose answer is one line, and returns that."""
-        with self._exchange():
-            self._ask(line)
-            return self._line()
-
-    def open_uploads(self) -> Optional[Set[int]]:
-        """The numbers of all open uploads of all tenants, or None if the store is out of memory for the answer."""
-        with self.own_session() as session:
             try:
-                return {upload.number for tenant in session.tenants() for upload in session.uploads(tenant)}
+                found = work(self._session)
             except Refused:
-                return None
+                self._is_behind = False
+                raise
+            self._is_behind = False
+            return found
 
-    def abort(self, upload: int) -> Optional[str]:
-        """Aborts an upload, unless it is no longer open. Returns what the store answers if it refuses."""
-        answer = self.answer(b"abort %d" % upload)
-        return None if answer in (b"ok\n", b"refused S7\n") else answer[:-1].decode("ascii", "replace")
+    def _catch_up(self) -> None:
+        """Reads what is unread."""
+        self._session.write(b"stat\n")
+        self._due += 1
+        while self._due:
+            line = self._answers.readline()
+            if not line:
+                raise has_ended()
+            self._due -= line.startswith(b"objects ")
+
+    def answer(self, line: bytes) -> str:
+        """Sends a command whose answer is one line, and returns that."""
+
+        def ask(session: Session) -> str:
+            session.write(line + b"\n")
+            return session.text()
+
+        return self._in_turn(ask)
 
     def status(self) -> Optional[int]:
         """The exit status of the process, or None while it runs. Only the main thread asks: two threads that ask at once may both miss the end."""
@@ -263,17 +240,21 @@ class StoreProcess:
             return not self._is_closing and self._process.returncode is None and ended is None
         return False
 
-    def close(self) -> int:
+    def close(self) -> None:
+        """Ends the process. See `end`."""
+        self.end()
+
+    def end(self) -> int:
         """Ends the process, if it was started, removes the folder, and returns the exit status. Everything in the store is lost."""
         self._is_closing = True
-        status = self._end() if self._is_started else 0
+        status = self._wait() if self._is_started else 0
         shutil.rmtree(self._folder, ignore_errors=True)
         if self._locked >= 0:
             os.close(self._locked)
         self._locked = -1
         return status
 
-    def _end(self) -> int:
+    def _wait(self) -> int:
         # A thread that holds the lock has sent its commands, and their answers come soon.
         has_lock = self._lock.acquire(timeout=SECONDS_TO_ANSWER)
         with contextlib.suppress(OSError):

@@ -17,6 +17,8 @@ from .values import Buffer, Ended, Refused, parse_number, parse_refusal
 
 READ_LEN = 1 << 16
 """The length of a session's read buffer."""
+PIECE_LEN = 1 << 20
+"""The length of the pieces in which many raw bytes are read."""
 MAX_LINE_LEN = 1 << 12
 """The maximum length of a line of an answer. All that a store writes are much shorter."""
 MAX_AHEAD = 8
@@ -224,6 +226,15 @@ class Session:
         if got < count:
             raise self._ended()
         return count
+
+    def content_to(self, words: List[str], write: Callable[[memoryview], None]) -> None:
+        """Reads the raw bytes of an answer, and passes them to a function in pieces, each of which is in memory until the next one."""
+        count = parse_number(words)
+        room = memoryview(bytearray(min(count, PIECE_LEN)))
+        while count:
+            piece = room[:count]
+            count -= self.content_into([str(piece.nbytes)], piece, piece.nbytes)
+            write(piece)
 
     def _broken(self, fault: OSError) -> Exception:
         """What to raise for an error at an end: the other side has ended. One without a number isn't the system's: a signal's handler has raised it."""

@@ -19,8 +19,8 @@ FUNCTIONS = (
 )
 SMALL_LEN = 1 << 14
 """Up to this many bytes are filed, prepared or read without letting other threads run: a thread that does may wait longer than the call takes."""
-LONG_ANSWERS = (b"entries", b"list", b"tenants", b"uploads")
-"""How the lines begin whose answers may be long."""
+LONG = (b"entries", b"fileas", b"list", b"objects", b"redo", b"tenants", b"uploads")
+"""How lines begin that may take long."""
 MAX_TENANTS, MAX_ENTRIES, WORKERS = 1 << 16, 1 << 32, 1
 
 Value = TypeVar("Value")
@@ -192,7 +192,7 @@ class Store(Transfers):
 
     def _run(self, lines: bytes) -> bytes:
         """The answers to lines."""
-        at, close, calls = ctypes.byref(Handle()), self._small.b3store_close, self._library if lines.startswith(LONG_ANSWERS) else self._small
+        at, close, calls = ctypes.byref(Handle()), self._small.b3store_close, self._library if lines.startswith(LONG) else self._small
         try:
             self._call(calls.b3store_lines, lines, SIZE(len(lines)), at, self._work_at)
             answers: bytes = self._copy(at, 0, NONE)[0]

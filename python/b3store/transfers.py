@@ -8,6 +8,7 @@ from types import TracebackType
 from typing import Any, BinaryIO, Callable, Iterator, List, Optional, Type, Union
 
 from .commands import Commands
+from .redo import run_lines
 from .values import (
     CHUNK_LEN, MAX_UPLOAD_LEN, PART_LEN, RANGE_LEN, Buffer, Ended, Filed, Held, Refused, check_address, check_bytes, check_number, check_room,
 )
@@ -254,6 +255,13 @@ class Transfers(Commands):
         check_number("buffering", buffering, 0, sys.maxsize)
         raw = StoredObject(self, tenant, check_address(address))
         return io.BufferedReader(raw, buffering) if buffering else raw
+
+    def run_lines(self, lines: Union[Buffer, BinaryIO]) -> int:
+        """Runs lines that another store has returned for `redo`: bytes, or a file of them that can seek, such as the log of a server. This store must have run
+        the lines of all entries before. Returns how many bytes the lines have, without an incomplete one at the end, which isn't run. Raises LogError for the
+        first line that is wrong or refused; up to 39 after it may have been run. A `forget` that is refused with S12 has no effect: `redo` may return such
+        ones."""
+        return run_lines(self, lines)
 
     def _upload_file(
         self, file: Any, tenant: int, length: Optional[int], address: Optional[str], max_len: Optional[int], progress: Optional[Callable[[int], None]]

@@ -28,6 +28,8 @@ PART_LEN = 1 << 20
 """The length of the parts that an upload is split into."""
 RANGE_LEN = 1 << 18
 """The default length of the ranges in which an object is read."""
+MAX_REDONE = 1 << 12
+"""The maximum number of entries that one answer of `redo` is for."""
 
 ADDRESS = re.compile("[0-9a-fA-F]{64}")
 ANSWERED_ADDRESS = re.compile("[0-9a-f]{64}")
@@ -147,6 +149,23 @@ class ObjectRow(NamedTuple):
 
     address: str
     length: int
+
+
+class ObjectPage(NamedTuple):
+    """Some of the objects that a tenant holds."""
+
+    next: int
+    """The number to ask for the following ones from."""
+    objects: List[ObjectRow]
+
+
+class Redone(NamedTuple):
+    """What redoes some entries of the journal."""
+
+    next: int
+    """The number of the entry after them."""
+    lines: bytes
+    """Lines of a session, and the bytes that follow some of them: what `Store.run_lines` takes."""
 
 
 def half_of_memory() -> int:

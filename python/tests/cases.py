@@ -4,6 +4,7 @@ import hostile
 import installing
 import moves
 import programs
+import redoing
 import served
 import stores
 import transfers
@@ -33,7 +34,8 @@ CASES = (
     ("objects as files", transfers.objects_as_files),
     ("objects read into buffers", transfers.reads_into_buffers),
     *moves.CASES,
-    ("objects and the journal one by one", transfers.iterates),
+    ("the journal one by one", transfers.iterates),
+    *redoing.CASES,
     ("a store for asyncio", transfers.by_asyncio),
     ("a session that is in use", transfers.scales),
     ("a client over a socket", served.over_a_socket),

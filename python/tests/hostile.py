@@ -36,8 +36,8 @@ def answers_that_lie():
     cases = (
         ([b"has 100\n", b"bytes 10\n0123456789"], lambda store: store.open(0, ABC).read()),
         ([b"has 3\n", b"bytes 2\nab"], lambda store: store.open(0, ABC, 0).readinto(bytearray(9))),
-        ([b"list 1\nfoo\n"], lambda store: list(store.objects(0))),
-        ([b"list 1\n%s 3 3\n" % ABC.encode()], lambda store: list(store.objects(0))),
+        ([b"objects 1 1\nfoo\n"], lambda store: store.objects(0)),
+        ([b"objects 1 1\n%s 3 3\n" % ABC.encode()], lambda store: store.objects(0)),
         ([b"list 1\n%s 3\n" % ABC.upper().encode()], lambda store: store.list(0)),
         ([b"list 2\n%s 3\n%s 3\n" % (ABC.encode(), ABC.encode())], lambda store: store.list(0)),
         ([b"tenants 2\n0 1 0 2\n0 1 0 2\n"], lambda store: store.tenants()),

@@ -190,7 +190,7 @@ def closed_stores():
     found, content = [], os.urandom(SMALL_LEN + 1)
     calls = (
         lambda store: store.stat(), lambda store: store.file(0, b"abc"), lambda store: store.upload(content, 0), lambda store: store.put(0, 0, content),
-        lambda store: store.fetch(0, ABC), lambda store: store.fetch_into(0, ABC, bytearray(3)), lambda store: store.begin(0, 3), lambda store: list(store.objects(0)),
+        lambda store: store.fetch(0, ABC), lambda store: store.fetch_into(0, ABC, bytearray(3)), lambda store: store.begin(0, 3), lambda store: store.objects(0),
     )
     for call in calls:
         with Store() as store:

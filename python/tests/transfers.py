@@ -10,7 +10,7 @@ import threading
 
 from bridge import client_of_a_server, over_both
 from shared import ABC, EMPTY, FOUR, SECONDS, Interrupted, differences, interrupt, raised, refusal
-from b3store import MAX_LIMIT, MAX_PART_LEN, MAX_UPLOAD_LEN, PART_LEN, AsyncStore, Ended, Filed, Held, ObjectRow, Refused, Totals, Usage
+from b3store import MAX_LIMIT, MAX_PART_LEN, MAX_UPLOAD_LEN, PART_LEN, AsyncStore, Ended, Filed, Held, Refused, Totals, Usage
 from b3store.values import half_of_memory
 
 LIMIT = 1 << 30
@@ -299,17 +299,17 @@ def reads_into_buffers(store):
 
 @over_both
 def iterates(store):
-    """Over the journal in pages, and over objects."""
-    tenant = store.tenant(LIMIT)
-    addresses = [store.upload(b"%d" % number, tenant).address for number in range(25)]
-    rows, entries = list(store.objects(tenant)), store.entries()
-    found = differences((rows, [ObjectRow(address, 1 if at < 10 else 2) for at, address in enumerate(addresses)]), (dict(rows), store.list(tenant)))
+    """Over the journal in pages."""
+    tenant, found = store.tenant(LIMIT), []
+    for number in range(25):
+        store.upload(b"%d" % number, tenant)
+    entries = store.entries()
     for page_len in 1, 7, 76, 1000:
         found += differences((list(store.journal(page_len=page_len)), entries), (list(store.journal(70, page_len)), entries[70:]))
     found += differences((list(store.journal(1000)), []), *((raised(store.journal, 0, wrong), ValueError) for wrong in (0, -1)))
     half = store.journal(page_len=2)
     found += differences((next(half), entries[0]), (store.stat().objects, 25), (next(half), entries[1]))
-    return found + differences((refusal(store.objects, 5), ("S1", None)), (raised(store.objects, "0"), TypeError), (raised(store.journal, "0"), TypeError))
+    return found + differences((raised(store.journal, "0"), TypeError))
 
 
 @over_both

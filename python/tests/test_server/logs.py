@@ -83,7 +83,7 @@ import errno, os
 from b3store import redo_log
 def fail(*_):
     raise OSError(errno.EIO, os.strerror(errno.EIO))
-redo_log.send_line = fail
+redo_log.run_lines = fail
 {RUN_SERVER}
 """
 """A server whose disk fails when it restores."""
@@ -106,7 +106,7 @@ def follows_clients(program: str) -> List[str]:
                 server.signal(signal.SIGKILL)
                 server.status()
             with Running(program, "--save", folder) as server:
-                found += differences((server.lines[0], "b3store.server: restored 1 object and 1 tenant; the last server was killed\n"), (server.end(), CLEAN))
+                found += differences((server.lines[0], "b3store.server: restored 1 object and 1 tenant; the last process was killed\n"), (server.end(), CLEAN))
             found += differences((state_at(program, folder), state))
     return found + differences((fails("--program", program, "--socket", "/tmp/none", "--sync", "never")[0], 2))
 
@@ -206,7 +206,7 @@ def replacements_that_fail(program: str) -> List[str]:
             client.ask("tenant 100000000")
             for address in [client.file(b"%d" % number * 300_000) for number in range(9)][:8]:
                 client.ask(f"forget 0 {address}")
-            told = f"b3store.server: the long log in {folder} can't be written anew: Input/output error; the server tries again\n"
+            told = f"b3store.server: the long log in {folder} can't be written anew: Input/output error; it is tried again\n"
             found = differences((wait_until(lambda: server.reported() == told), True))
             client.file(b"late")
             state = state_of(client)
@@ -261,7 +261,7 @@ def torn_ends(program: str) -> List[str]:
                 log.restore(store, lambda: None)
                 told = f"{folder}/log ended within a line: its last {length - whole} byte{'s are' if length - whole > 1 else ' is'} removed"
                 found += differences((reported, [told] if length > whole else []), (log_of(folder), SMALL[:whole]))
-                store.answer(b"tenant 5")
+                store.tenant(5)
                 log.follow(store)
                 found += differences((log_of(folder), SMALL[:whole] + b"tenant 5\n"))
             finally:
@@ -301,11 +301,10 @@ def _damaged(log: bytes) -> Iterator[Tuple[bytes, str]]:
     yield log + b"\n", f", at byte {len(log)}, is no line of a log; nothing was changed; `truncate -s {len(log)}`"
     yield log + b"list 0\n", f", at byte {len(log)}, is no line of a log"
     yield log + b"limit 0 " + b"1" * 300, f", at byte {len(log)}, is no line of a log"
-    yield log + b"limit 7 5\n", f", at byte {len(log)}, is answered 'refused S1'"
-    yield log + b"tenant 99999999999999999999\n", f", at byte {len(log)}, is answered 'bad'"
-    yield log[log.index(b"\n") + 1 :], "log: line 1, at byte 0, is answered 'refused S1'"
-    yield flipped(log, log.index(bytes(100)) + 50), "is answered 'refused S11"
-    yield flipped(log, log.index(b"fileas") + 20), "log: line 2, at byte 15, is "
+    yield log + b"limit 7 5\n", f", at byte {len(log)}, is refused: S1: "
+    yield log + b"tenant 99999999999999999999\n", f", at byte {len(log)}, is no line of a log"
+    yield log[log.index(b"\n") + 1 :], "log: line 1, at byte 0, is refused: S1: "
+    yield log + b"forget 0 " + b"0" * 64 + b"\nlimit 0 1\n", ", is refused: S4: "
 
 
 def damaged_logs(program: str) -> List[str]:
@@ -320,6 +319,29 @@ def damaged_logs(program: str) -> List[str]:
             status, told = fails("--program", program, "--socket", f"{folder}-socket", "--save", folder)
             found += differences((status, 1), (wanted in told and told.count("\n") == 1, True), (files_in(folder), before))
     return found[:5]
+
+
+def damaged_objects(program: str) -> List[str]:
+    """An object that is damaged is reported, and all others are restored; a log that is written anew doesn't have it."""
+    with save_folder() as folder:
+        with Running(program, "--save", folder) as server:
+            with server.client() as client:
+                client.ask("tenant 10000000")
+                addresses = [client.file(b"%d" % number * length) for number, length in enumerate((5, 2_000_000, 5, 70_000))]
+                client.ask(f"forget 0 {addresses[0]}")
+            server.end()
+        log = log_of(folder)
+        for at in log.index(b"1" * 9) + 1_500_000, log.index(b"3" * 9) + 9:
+            log = flipped(log, at)
+        with open(f"{folder}/log", "wb") as file:
+            file.write(log)
+        with Running(program, "--save", folder) as server, server.client() as client:
+            found = differences(([row.split()[0].decode() for row in client.ask("list 0").splitlines()[1:]], [addresses[2]]))
+            told = [f"b3store.server: {folder}/log: line {number}, at byte {log.index(address.encode()) - 9}, is refused: S11: " for number, address in ((3, addresses[1]), (5, addresses[3]))]
+            found += differences((len(server.reported().splitlines()), 2), *((line[: len(wanted)], wanted) for line, wanted in zip(server.reported().splitlines(), told)))
+            found += differences((server.reported().count(": this object is damaged, and not restored\n"), 2))
+            found += differences((wait_until(lambda: os.stat(f"{folder}/log").st_size < 1000), True), (client.ends(), b""), (server.end()[::2], (0, [])))
+        return found
 
 
 def logs_that_cannot_be_read(program: str) -> List[str]:
@@ -402,7 +424,7 @@ def syncs_that_fail(program: str) -> List[str]:
                 if path == failing:
                     os.unlink(f"{folder}/log")
                 client.file(path.encode())
-                told = f"b3store.server: the log in {folder} can't be written: Input/output error; the server tries again\n"
+                told = f"b3store.server: the log in {folder} can't be written: Input/output error; it is tried again\n"
                 found += differences((wait_until(lambda told=told: told in server.reported()), True))
                 os.unlink(path)
                 found += differences((wait_until(lambda: server.reported().endswith(" is written again\n")), True), (is_logged(folder, path.encode()), True))
@@ -421,6 +443,7 @@ LOGS = (
     ("torn ends of a log", torn_ends),
     ("logs that are changed", logs_that_are_changed),
     ("damaged logs", damaged_logs),
+    ("damaged objects of a log", damaged_objects),
     ("logs that can't be read", logs_that_cannot_be_read),
     ("logs on a full disk", full_disks),
     ("logs that can't be synced", syncs_that_fail),

@@ -26,29 +26,31 @@ FORGETFUL = f"""
 from b3store import redo_log, relay, server_store
 from b3store.sessions import Session
 redo_log.RedoLog.follow = lambda *_: None
-relay.MAX_BEGUN, text, line, left = 4, Session.text, server_store.StoreProcess._line, [7, 1]
+relay.MAX_BEGUN, text, catch_up, left = 4, Session.text, server_store.StoreProcess._catch_up, [7, 1]
 def text_or_fail(session):
     left[0] -= 1
     if left[0] == 0:
         raise MemoryError
     return text(session)
-def line_or_fail(store):
-    left[1] -= left[0] <= 0
+def catch_up_or_fail(store):
+    left[1] -= 1
     if left[1] == 0:
+        store._session.write(b"stat\\n")
+        store._due += 1
         raise MemoryError
-    return line(store)
-Session.text, server_store.StoreProcess._line = text_or_fail, line_or_fail
+    return catch_up(store)
+Session.text, server_store.StoreProcess._catch_up = text_or_fail, catch_up_or_fail
 {RUN_SERVER}
 """
 """A server that asks soon which uploads are open, and has no memory for one of them, and none for the next answer."""
 FULL = f"""
-from b3store import Refused, redo_log
-copy = redo_log.LogFile._copy
-def copy_or_refuse(log, session, count, tick):
+from b3store import Refused, server_store
+redo_to = server_store.StoreProcess._redo_to
+def redo_or_refuse(store, write, first, count):
     if count > 1:
         raise Refused("S14")
-    return copy(log, session, count, tick)
-redo_log.LogFile._copy = copy_or_refuse
+    return redo_to(store, write, first, count)
+server_store.StoreProcess._redo_to = redo_or_refuse
 {RUN_SERVER}
 """
 """A server whose store has no memory to redo several entries at once."""
@@ -202,7 +204,7 @@ def folders_that_are_removed(program: str) -> List[str]:
         os.rename(folder, f"{folder}-removed")
         os.rename(f"{folder}-other", folder)
         shutil.rmtree(f"{folder}-removed")
-        files, wanted = files_in(folder), f"{folder} holds 'log' and is not the folder that the server had locked"
+        files, wanted = files_in(folder), f"{folder} holds 'log' and is not the folder that was locked"
         found += differences((wait_until(lambda: wanted in server.reported()), True))
         status, told, left = _end_unsaved(server)
         return found + differences((status, 4), (told.count(wanted), 2), (left, []), (files_in(folder), files))
@@ -246,7 +248,7 @@ def folders_of_others(program: str) -> List[str]:
     found = []
     cases = [(0o775, None, "can be written to by others: chmod go-w {}"), (0o757, None, "can be written to by others: chmod go-w {}")]
     if os.geteuid() == 0:
-        cases.append((0o700, 1234, "belongs to another user: name a folder of the server's user"))
+        cases.append((0o700, 1234, "belongs to another user: name a folder of your own"))
     for mode, owner, wanted in cases:
         with save_folder() as folder:
             fill_folder(program, folder)
