@@ -53,7 +53,9 @@ class Line(NamedTuple):
 
 def lines_of(log: BinaryIO) -> Iterator[Line]:
     """Yields the lines of a log, without an incomplete one at the end. Raises LogError for one that is wrong."""
-    size, at = log.seek(0, io.SEEK_END), 0
+    log.seek(0, io.SEEK_END)
+    # some kinds of files return it from `seek` only in newer versions of Python
+    size, at = log.tell(), 0
     for number in itertools.count(1):
         log.seek(at)
         text = log.readline(MAX_LINE_LEN)

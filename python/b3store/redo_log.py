@@ -166,7 +166,8 @@ class RedoLog:
             time.sleep(1)
         log.finish(store)
 
-    `follow`, `finish` and `renew` take turns, if threads call them; other threads may use the store meanwhile."""
+    Without a call of `restore`, the log that the folder has is replaced by a new one. `follow`, `finish` and `renew` take turns, if threads call them; other
+    threads may use the store meanwhile."""
 
     def __init__(self, path: str, report: Callable[[str], None], syncs: bool = True) -> None:
         """Opens a folder, which is made if there is none. Raises SaveError, and changes nothing, if another process has it, or if it has other files and no
@@ -174,7 +175,7 @@ class RedoLog:
         self._report, self._syncs = report, syncs
         self._folder = open_folder(path)
         self._lock = threading.Lock()
-        self._is_finished = self._is_folder_synced = False
+        self._is_finished = self._is_folder_synced = self._is_restored = False
         self._new: Optional[LogFile] = None
         self._next_try, self._min_len = -math.inf, MIN_REPLACED_LEN
         """When the log is written anew at the earliest, and how long it must be then."""
@@ -205,7 +206,7 @@ class RedoLog:
             with self._folder.open(LOG) as file:
                 length = run_lines(store, file, tick, lambda error: self._report(f"{path}: {error}: this object is damaged, and not restored"))
             counts = store.counts()
-            torn = self._log.begin(length, counts.entries)
+            torn, self._is_restored = self._log.begin(length, counts.entries), True
             for name in NEW_LOG, CLEAN:
                 with contextlib.suppress(FileNotFoundError):
                     os.unlink(name, dir_fd=self._folder.number)
@@ -284,9 +285,10 @@ class RedoLog:
             return counts_text(counts) + path
 
     def _append(self, store: Transfers, tick: Tick) -> Counts:
-        """Appends all that was changed until now, and returns what the store had then. A log that was removed, replaced or truncated is written anew."""
+        """Appends all that was changed until now, and returns what the store had then. A log that was removed, replaced or truncated, or that wasn't restored,
+        is written anew."""
         counts = store.counts()
-        if not self._is_in_place():
+        if not (self._is_restored and self._is_in_place()):
             self._drop_new()
             self._find()
             self._write_anew(store, counts, tick)
@@ -342,7 +344,9 @@ class RedoLog:
         # one that didn't pay isn't repeated soon
         self._min_len = 2 * self._new.length if end < math.inf and 2 * self._new.length > self._log.length else MIN_REPLACED_LEN
         self._log.close()
-        self._log, self._new, self._is_folder_synced = self._new, None, False
+        self._log, self._new, self._is_folder_synced, self._is_restored = self._new, None, False, True
+        with contextlib.suppress(FileNotFoundError):
+            os.unlink(CLEAN, dir_fd=self._folder.number)
         self._sync_folder()
 
     def _sync_folder(self) -> None:

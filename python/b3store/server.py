@@ -43,8 +43,8 @@ MAX_WAITING = 1024
 """The maximum number of connections that wait for a turn. Others stay in the queues of the listening sockets."""
 MAX_READS = 16
 """How often more is read from a client that is sent `busy`."""
-SYNCS = {"always": 0.02, "second": 1.0, "no": 1.0}
-"""How many seconds are between two looks at what the log doesn't have yet."""
+SECONDS_BETWEEN_WRITES = 1.0
+"""How long the server waits before it appends to the log again."""
 SECONDS_TO_CUT = 2.0
 """How long the sessions of connections that are ended by the server may take to execute the commands that they have read."""
 SECONDS_FOR_LAST = 30.0
@@ -209,7 +209,7 @@ class Server:
         """Appends to the log what clients change, until the process ends."""
         while True:
             if not log.follow(self._store):
-                time.sleep(SYNCS[self._options.sync])
+                time.sleep(SECONDS_BETWEEN_WRITES)
 
     def run(self) -> int:
         """Serves, and returns the exit status."""
@@ -335,7 +335,7 @@ def read_words() -> argparse.Namespace:
     add("--wait", metavar="SECONDS", type=seconds, default=10, help="send `busy` to a connection that has waited this long for its turn (default 10)")
     add("--grace", metavar="SECONDS", type=seconds, default=10, help="after SIGTERM, wait this long for open connections to end (default 10)")
     add("--save", metavar="FOLDER", help="at the start, restore the store from the log in FOLDER; append each change to it within a second")
-    add("--sync", choices=tuple(SYNCS), default="second", help="sync the log each second (default), 50 times a second, or only at the end (no)")
+    add("--sync", choices=("second", "no"), default="second", help="sync the log each second (default), or leave it to the system (no)")
     add("--memory", metavar="SIZE", type=size, default=half_of_memory(), help="limit the store's memory, as 512M or 4G (default: half of the machine's)")
     add("--keep-uploads", action="store_true", help="when a connection ends, leave the uploads that it began open")
     words = parser.parse_args()

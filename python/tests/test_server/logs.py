@@ -14,8 +14,8 @@ import time
 from typing import Any, Dict, Iterator, List, Set, Tuple
 
 from judging import differences, wait_until
-from running import CLEAN, PACKAGE, SECONDS, Running, fails
-from saving import RUN_SERVER, append_to, content_of, files_in, fill_folder, flipped, is_logged, log_of, save_folder, state_at, state_of
+from running import AS_MODULE, CLEAN, PACKAGE, SECONDS, Client, Running, fails
+from saving import RUN_QUICKLY, RUN_SERVER, append_to, content_of, files_in, fill_folder, flipped, is_logged, log_of, save_folder, state_at, state_of
 
 sys.path.insert(1, PACKAGE)
 from b3store.redo_log import RedoLog
@@ -44,7 +44,7 @@ def write_in_steps(*given):
 redo_log.RedoLog._write_anew = write_in_steps
 for name in "fsync", "fdatasync", "replace", "unlink", "open", "pwrite", "fstat":
     setattr(os, name, counted(getattr(os, name)))
-{RUN_SERVER}
+{RUN_QUICKLY}
 """
 """A server that is killed while it writes its log anew, once it has done as many steps with files as the variable STEPS says."""
 UNSYNCED = f"""
@@ -75,7 +75,7 @@ def replace_or_fail(*given, **named):
         raise OSError(errno.EIO, os.strerror(errno.EIO))
     replace(*given, **named)
 os.replace = replace_or_fail
-{RUN_SERVER}
+{RUN_QUICKLY}
 """
 """A server that can't replace its log while there is the file FAILING, and soon tries again."""
 UNREADABLE = f"""
@@ -94,7 +94,7 @@ NO_MEMORY = UNREADABLE.replace("OSError(errno.EIO, os.strerror(errno.EIO))", "Me
 def follows_clients(program: str) -> List[str]:
     """What a client changes is in the log soon, for each word of --sync. The lines of the log are those of a session."""
     found = []
-    for word in "always", "second", "no":
+    for word in "second", "no":
         with save_folder() as folder:
             with Running(program, "--save", folder, "--sync", word) as server, server.client() as client:
                 client.ask("tenant 5000")
@@ -108,7 +108,7 @@ def follows_clients(program: str) -> List[str]:
             with Running(program, "--save", folder) as server:
                 found += differences((server.lines[0], "b3store.server: restored 1 object and 1 tenant; the last process was killed\n"), (server.end(), CLEAN))
             found += differences((state_at(program, folder), state))
-    return found + differences((fails("--program", program, "--socket", "/tmp/none", "--sync", "never")[0], 2))
+    return found + differences((fails("--program", program, "--socket", "/tmp/none", "--sync", "always")[0], 2))
 
 
 class Writer(threading.Thread):
@@ -130,42 +130,48 @@ class Writer(threading.Thread):
                 part += 1
                 content = content_of(*self._numbers, part) * (20_000 if part % 8 else 1)
                 self.sent.add(hashlib.sha256(content).digest())
-                self.filed[client.file(content)] = time.monotonic()
+                address = client.file(content)
+                self.filed[address] = time.monotonic()
                 if len(self.filed) > 10:
                     address = next(iter(self.filed))
                     del self.filed[address]
                     client.ask(f"forget 0 {address}")
 
 
+def _restored(client: Client, number: int, sent: Set[bytes]) -> Tuple[Set[str], List[str]]:
+    """What a store has after a kill, of which nothing is kept, and what is wrong with it."""
+    client.ask(f"tenant {1 << 40}")
+    addresses = [row.split()[0].decode() for row in client.ask("list 0").splitlines()[1:]]
+    contents = [client.ask(f"fetchb 0 {address}").partition(b"\n")[2] for address in addresses]
+    for address in addresses:
+        client.ask(f"forget 0 {address}")
+    return {*addresses}, [f"an object is wrong after kill {number}" for content in contents if hashlib.sha256(content).digest() not in sent]
+
+
 def kills_beside_writers(program: str) -> List[str]:
-    """Whenever a server or its store is killed, what was filed more than the interval before is restored, and nothing is restored that wasn't filed or has
-    other bytes. Meanwhile the log is written anew."""
-    chance, found, anew = random.Random(9), [], 0
+    """Whenever a server or its store is killed, everything is restored that was answered before something that is in the log was sent, and nothing that wasn't
+    sent. Meanwhile the log is written anew."""
+    chance, found, anew, missing = random.Random(9), [], 0, set()
     writers: List[Writer] = []
     sent: Set[bytes] = set()
     with save_folder() as folder:
         for number in range(KILLS):
-            # with --sync always it takes much less, but for a busy machine
-            word, seconds = ("second", 2.5) if number % 5 == 4 else ("always", 2.0)
-            with Running(program, "--save", folder, "--sync", word) as server:
-                with server.client() as client:
-                    client.ask(f"tenant {1 << 40}")
-                    restored = [row.split()[0].decode() for row in client.ask("list 0").splitlines()[1:]]
-                    contents = [client.ask(f"fetchb 0 {address}").partition(b"\n")[2] for address in restored]
-                    found += [f"an object is wrong after kill {number}" for content in contents if hashlib.sha256(content).digest() not in sent]
-                    for address in restored:
-                        client.ask(f"forget 0 {address}")
-                missing = {address for writer in writers for address, at in writer.filed.items() if at < killed - late} - {*restored}
-                found += [f"{len(missing)} objects are missing after kill {number}"] if missing else []
+            with Running(program, "--save", folder, python=["-c", RUN_QUICKLY] if number % 5 else AS_MODULE) as server, server.client() as client:
+                restored, faults = _restored(client, number, sent)
+                found += faults + [f"{address} is missing after kill {number}" for address in missing - restored]
                 inode = os.stat(f"{folder}/log").st_ino
                 writers = [Writer(server, (number, writer)) for writer in range(WRITERS)]
-                time.sleep(seconds + chance.uniform(0, 1))
-                killed, late = time.monotonic(), seconds
+                time.sleep(chance.uniform(0, 1))
+                before, marker = time.monotonic(), content_of(number)
+                sent.add(hashlib.sha256(marker).digest())
+                found += differences((is_logged(folder, client.file(marker).encode()), True))
+                time.sleep(chance.uniform(0, 0.2))
                 os.kill(server.store() if number % 3 == 2 else server.process.pid, signal.SIGKILL)
                 server.status()
                 for writer in writers:
                     writer.join(SECONDS)
                     sent |= writer.sent
+                missing = {address for writer in writers for address, at in writer.filed.items() if at < before}
                 anew += os.stat(f"{folder}/log").st_ino != inode
     return found[:5] + differences((anew > 2, True), (len(sent) > KILLS * WRITERS, True))
 
@@ -173,7 +179,7 @@ def kills_beside_writers(program: str) -> List[str]:
 def writes_anew(program: str) -> List[str]:
     """A log of which the store has less than half is written anew, while the server runs and after a restart; one that isn't long stays."""
     with save_folder() as folder:
-        with Running(program, "--save", folder, "--sync", "always") as server, server.client() as client:
+        with Running(program, "--save", folder, python=["-c", RUN_QUICKLY]) as server, server.client() as client:
             client.ask("tenant 100000000")
             client.ask("tenant 100000000")
             addresses = [client.file(b"%d" % number * 300_000) for number in range(9)]
@@ -201,8 +207,7 @@ def replacements_that_fail(program: str) -> List[str]:
     """If a log can't be written anew, that is reported once, the old one is extended, and it is tried again."""
     with save_folder() as folder:
         failing = append_to(f"{folder}-failing")
-        words = ("--save", folder, "--sync", "always")
-        with Running(program, *words, python=["-c", UNREPLACED], FAILING=failing) as server, server.client() as client:
+        with Running(program, "--save", folder, python=["-c", UNREPLACED], FAILING=failing) as server, server.client() as client:
             client.ask("tenant 100000000")
             for address in [client.file(b"%d" % number * 300_000) for number in range(9)][:8]:
                 client.ask(f"forget 0 {address}")
@@ -224,8 +229,7 @@ def kills_while_written_anew(program: str) -> List[str]:
     found, statuses = [], []
     while statuses[-1:] != [0] and len(statuses) < 60:
         with save_folder() as folder:
-            words = ("--save", folder, "--sync", "always")
-            with Running(program, *words, python=["-c", STEPS], STEPS=str(len(statuses))) as server, server.client() as client:
+            with Running(program, "--save", folder, python=["-c", STEPS], STEPS=str(len(statuses))) as server, server.client() as client:
                 client.ask("tenant 100000000")
                 address = client.file(bytes(2_000_000))
                 kept = client.file(b"kept")

@@ -11,6 +11,8 @@ from running import Client, Running
 
 LENGTHS = (1, 2, 1023, 1024, 1025, 4096, 70_000)
 RUN_SERVER = "import runpy; runpy.run_module('b3store.server', run_name='__main__', alter_sys=True)"
+RUN_QUICKLY = "import sys; from b3store import server; server.SECONDS_BETWEEN_WRITES = 0.02; sys.exit(server.main())"
+"""A server that appends to its log 50 times a second."""
 
 
 @contextlib.contextmanager

@@ -3,6 +3,7 @@ import functools
 from typing import Callable, Iterator, List, Tuple
 
 from ends import ENDS
+from following import FOLLOWING
 from lines import LINES
 from logs import LOGS
 from pipes import PIPES
@@ -13,5 +14,5 @@ from storm import STORM
 
 def cases(program: str) -> Iterator[Tuple[str, Callable[[], List[str]]]]:
     """Each case by its name. It returns what is not as it should be."""
-    for name, case in SCANNING + LINES + PIPES + ENDS + SAVES + LOGS + STORM:
+    for name, case in SCANNING + LINES + PIPES + ENDS + SAVES + LOGS + FOLLOWING + STORM:
         yield f"the server: {name}", functools.partial(case, program)

@@ -1,0 +1,123 @@
+"""`python -m b3store.follow FROM TO`: keeps a copy of a server's store, on another server or in a folder (docs/SERVER.md)."""
+from .programs import end_at_once
+
+if __name__ == "__main__":
+    end_at_once()
+
+import argparse
+import os
+import sys
+import tempfile
+import time
+from typing import List, Optional
+
+from .client import Client
+from .console import count_text, fault_text, finish, report
+from .redo_log import RedoLog
+from .values import MAX_REDONE, Counts, StoreError
+
+SECONDS_BETWEEN_LOOKS = 0.1
+"""How long nothing is asked for once the copy has everything."""
+SECONDS_BETWEEN_TRIES = 1.0
+MAX_IN_MEMORY = 1 << 23
+"""How many bytes of an answer are kept in memory. More are kept in a temporary file."""
+EPILOG = """\
+examples:
+  python -m b3store.follow /run/first/socket /run/second/socket
+  python -m b3store.follow /run/first/socket /var/lib/copy/
+
+exit status: 2 usage error; 3 the copy can't be made, and is left as it is; otherwise it runs until a signal ends it
+"""
+
+
+class Unlike(StoreError):
+    """A copy is of another store, and left as it is."""
+
+
+class Source:
+    """The server that is copied: where it is, and an entry of its journal by which it is known again."""
+
+    def __init__(self, path: str) -> None:
+        self.path = path
+        self._number, self._entry = 0, [""]
+
+    def check(self, store: Client) -> None:
+        """Raises Unlike if the store isn't the one that was followed before: a server that was started again may have lost what its copy still has."""
+        if self._entry != [""] and store.entries(self._number, 1) != self._entry:
+            raise Unlike(f"{self.path} was started again: its copy is left as it is")
+        self._number = store.counts().entries - 1
+        if self._number >= 0:
+            self._entry = store.entries(self._number, 1)
+
+
+def follow_to_server(source: Client, path: str) -> None:
+    """Keeps the store of another server the same, until a connection ends, which raises Ended."""
+    with Client(path) as target:
+        at, is_told = make_same(source, target), False
+        while True:
+            with tempfile.SpooledTemporaryFile(MAX_IN_MEMORY) as lines:
+                following = source._redo_to(lines.write, at, MAX_REDONE)  # type: ignore[arg-type]
+                target.run_lines(lines)
+            if following == at and not is_told:
+                counts, is_told = target.counts(), True
+                print(f"b3store.follow: {path} has {count_text(counts.objects, 'object')} and {count_text(counts.tenants, 'tenant')}", flush=True)
+            time.sleep(SECONDS_BETWEEN_LOOKS if following == at else 0)
+            at = following
+
+
+def make_same(source: Client, target: Client) -> int:
+    """Gives a store what another one has, unless it is empty. Returns the number of the entry from which it goes on."""
+    counts, has = source.counts(), target.counts().tenants
+    if has > counts.tenants:
+        raise Unlike(f"the copy has {count_text(has, 'tenant')}, and the store to copy {counts.tenants}: it is left as it is")
+    for tenant in range(counts.tenants if has else 0):
+        limit, wanted = source.usage(tenant).limit, source.list(tenant)
+        if tenant >= has:
+            target.tenant(limit)
+        held = target.list(tenant)
+        target.forget_all(tenant, [address for address in held if address not in wanted])
+        target.limit(tenant, limit)
+        for address in wanted:
+            # what is forgotten meanwhile is redone later
+            if address not in held and source.has(tenant, address) is not None:
+                target.upload(source.open(tenant, address), tenant, wanted[address], address=address)
+    return counts.entries if has else 0
+
+
+def follow_to_folder(source: Client, log: RedoLog) -> None:
+    """Keeps a log of the store, until the connection ends, which raises Ended."""
+    while True:
+        source.counts()
+        if not log.follow(source):
+            time.sleep(SECONDS_BETWEEN_TRIES)
+
+
+def run() -> int:
+    """Runs the program, and lets exceptions pass."""
+    parser = argparse.ArgumentParser(
+        "b3store.follow", description="Keep a copy of a server's store.", epilog=EPILOG, formatter_class=argparse.RawDescriptionHelpFormatter
+    )
+    parser.add_argument("source", metavar="FROM", help="the socket of the server to copy")
+    parser.add_argument("target", metavar="TO", help="the socket of another server; or a folder for a log: one that exists, or a path that ends with /")
+    words = parser.parse_args()
+    log = RedoLog(words.target, report) if words.target.endswith("/") or os.path.isdir(words.target) else None
+    known, told = Source(words.source), ""
+    while True:
+        try:
+            with Client(words.source) as source:
+                known.check(source)
+                if log is None:
+                    follow_to_server(source, words.target)
+                else:
+                    follow_to_folder(source, log)
+        except Unlike:
+            raise
+        except (OSError, StoreError, MemoryError) as fault:
+            if fault_text(fault) != told:
+                told = fault_text(fault)
+                report(f"{told}; it is tried again")
+        time.sleep(SECONDS_BETWEEN_TRIES)
+
+
+if __name__ == "__main__":
+    sys.exit(finish(run))

@@ -1,0 +1,145 @@
+"""b3store.follow: copies of a server, on another server and in a folder, whatever is killed."""
+import contextlib
+import os
+import signal
+import subprocess
+import sys
+import tempfile
+from typing import Any, Iterator, List, Optional
+
+from judging import differences, wait_until
+from running import CLEAN, PACKAGE, SECONDS, Client, Running, environment
+from saving import append_to, log_of, save_folder, state_at, state_of
+
+sys.path.insert(1, PACKAGE)
+from b3store import Client as PackageClient
+
+OBJECTS = 10_000
+LARGE = (9 << 20) + 1
+"""The length of an object that isn't kept in memory while it is copied."""
+
+
+class Following:
+    """A b3store.follow that runs."""
+
+    def __init__(self, source: str, target: str) -> None:
+        self._room = tempfile.TemporaryDirectory()
+        self._errors = open(os.path.join(self._room.name, "errors"), "w+b")
+        words = [sys.executable, "-m", "b3store.follow", source, target]
+        self.process = subprocess.Popen(words, stdin=subprocess.DEVNULL, stdout=self._errors, stderr=self._errors, env=environment(self._room.name, {}))
+
+    def __enter__(self) -> "Following":
+        return self
+
+    def __exit__(self, *_: Any) -> None:
+        self.process.kill()
+        self.process.wait()
+        self._errors.close()
+        self._room.cleanup()
+
+    def told(self) -> str:
+        with open(self._errors.name, encoding="utf-8") as file:
+            return file.read()
+
+    def tells(self, text: str) -> bool:
+        """Whether it soon has written a text."""
+        return wait_until(lambda: text in self.told())
+
+    def ends(self, number: Optional[int] = None) -> List[Any]:
+        """Its status, and all that it has written."""
+        if number is not None:
+            self.process.send_signal(number)
+        return [self.process.wait(SECONDS), self.told()]
+
+
+def _same(first: Client, second: Client) -> bool:
+    """Whether a server soon has all that another one has."""
+    return wait_until(lambda: second.ask("stat") == first.ask("stat") and state_of(second) == state_of(first))
+
+
+@contextlib.contextmanager
+def _again(program: str, path: str, *words: str) -> Iterator[None]:
+    """A server at the path of one that was killed."""
+    with Running(program, *words) as server:
+        os.rename(server.path, path)
+        yield
+
+
+def a_standby(program: str) -> List[str]:
+    """A standby gets what the first server has while clients use that, and again after it was killed. When the first one is killed, it has everything."""
+    with Running(program) as first, save_folder() as folder:
+        with Running(program, "--save", folder) as second, Following(first.path, second.path) as following, PackageClient(first.path) as filling:
+            for limit in (1 << 30, 5, 1 << 20):
+                filling.tenant(limit)
+            addresses = [filed.address for filed in filling.file_all(0, [b"%d" % number for number in range(OBJECTS // 2)])]
+            filling.upload(bytes(LARGE), 0)
+            second.signal(signal.SIGKILL)
+            second.status()
+            filling.forget_all(0, addresses[::7])
+            filling.limit(1, 6)
+            with _again(program, second.path, "--save", folder), first.client() as client, Client(second.path) as copied:
+                filling.file_all(0, [b"%d" % number for number in range(OBJECTS // 2, OBJECTS)])
+                filling.file_all(2, [bytes(number) for number in range(100)])
+                found = differences((_same(client, copied), True))
+                state = state_of(client)
+                first.signal(signal.SIGKILL)
+                first.status()
+                found += differences((state_of(copied) == state, True), (copied.ask("tenant 7"), b"tenant 3\n"), (len(state["list 0"].splitlines()) > OBJECTS * 9 // 10, True))
+                found += differences((following.tells(f"{first.path} has closed the connection; it is tried again\n"), True), (following.process.poll(), None))
+                status, told = following.ends(signal.SIGTERM)
+                return found + differences((status, 128 + signal.SIGTERM), ("Traceback" in told, False))
+
+
+def copies_in_a_folder(program: str) -> List[str]:
+    """A folder gets a log in place of the one that it has, and a server that is started on it has what the first one had."""
+    with save_folder() as folder, Running(program) as first, first.client() as client:
+        os.mkdir(folder, 0o700)
+        with open(append_to(f"{folder}/log"), "wb") as file:
+            file.write(b"tenant 7\n" * 3)
+        append_to(f"{folder}/clean")
+        client.ask("tenant 100000000")
+        addresses = [client.file(b"%d" % number * 900_000) for number in range(4)]
+        with Following(first.path, folder) as following:
+            found = differences((wait_until(lambda: log_of(folder).endswith(b"3" * 900_000)), True), (os.listdir(folder), ["log"]))
+            for address in addresses[:3]:
+                client.ask(f"forget 0 {address}")
+            found += differences((wait_until(lambda: os.stat(f"{folder}/log").st_size < 1_000_000), True))
+            last = client.file(b"last").encode()
+            found += differences((wait_until(lambda: last in log_of(folder)), True))
+            state = state_of(client)
+            first.signal(signal.SIGKILL)
+            found += differences((following.tells(" has closed the connection; it is tried again\n"), True), (following.ends(signal.SIGINT)[0], 128 + signal.SIGINT))
+        return found + differences((state_at(program, folder), state))
+
+
+def copies_that_are_refused(program: str) -> List[str]:
+    """A copy is left as it is if it has more tenants, or if the first server was started again; a place that is wrong is reported once, and tried again."""
+    with Running(program) as first, Running(program) as second, second.client() as copied:
+        with Following(f"{first.path}-none", second.path) as following:
+            found = differences((following.tells(f"b3store: {first.path}-none: no such file or directory; it is tried again\n"), True))
+            found += differences((following.ends(signal.SIGINT)[1].count("\n"), 1))
+        copied.ask("tenant 50")
+        copied.file(b"only here")
+        state = state_of(copied)
+        with Following(first.path, second.path) as following:
+            found += differences((following.ends(), [3, "b3store: the copy has 1 tenant, and the store to copy 0: it is left as it is\n"]), (state_of(copied), state))
+        with first.client() as client:
+            client.ask("tenant 9")
+            client.file(b"kept")
+            state = state_of(client)
+        with Following(first.path, second.path) as following:
+            found += differences((following.tells(f"b3store.follow: {second.path} has 1 object and 1 tenant\n"), True), (state_of(copied), state))
+            first.signal(signal.SIGKILL)
+            first.status()
+            with _again(program, first.path), Client(first.path) as client:
+                client.ask("tenant 9")
+                status, told = following.ends()
+                found += differences((status, 3), (told.endswith(f"b3store: {first.path} was started again: its copy is left as it is\n"), True), (state_of(copied), state))
+        return found + differences((copied.ends(), b""), (second.end(), CLEAN))
+
+
+FOLLOWING = (
+    ("a standby", a_standby),
+    ("copies in a folder", copies_in_a_folder),
+    ("copies that are refused", copies_that_are_refused),
+)
