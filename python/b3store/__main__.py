@@ -15,16 +15,13 @@ from typing import Any, BinaryIO, Callable, Iterator, List, Optional, Tuple
 
 from . import __version__
 from .client import Client
-from .console import Progress, check_line, error_text, finish, one_line, report
-from .files import private
-from .sessions import write_all
-from .values import MAX_NUMBER, MAX_UPLOAD_LEN, PART_LEN, Refused, check_address, check_number
+from .console import check_line, error_text, finish, number, one_line, report, size
+from .values import MAX_NUMBER, MAX_UPLOAD_LEN, PART_LEN, Refused, check_address
 
-USAGE, MISSING = 2, 1
+MISSING = 1
 MAX_IN_MEMORY = 1 << 26
 """How many bytes of a file whose length isn't known are kept in memory."""
-MAX_LINKS = 40
-"""The maximum number of links that are followed, as by the system."""
+NUMBER = number(0, MAX_NUMBER)
 EPILOG = """\
 examples:
   b3store-client --socket /run/b3store/socket put FILE
@@ -49,178 +46,85 @@ def put_file(store: Client, tenant: int, name: str, max_len: Optional[int]) -> i
         if name == "-" and sys.stdin is None:
             raise OSError(errno.EBADF, "standard input is closed")
         with contextlib.ExitStack() as ending:
-            file = ending.enter_context(open(0 if name == "-" else name, "rb", buffering=0, closefd=name != "-"))
-            status = os.fstat(file.fileno())
-            is_regular = stat.S_ISREG(status.st_mode)
-            if not is_regular and max_len is None:
-                file = ending.enter_context(read_ahead(file, name))
-            progress = ending.enter_context(contextlib.closing(Progress(name, status.st_size if is_regular else None)))
-            filed = store.upload(file, tenant, max_len=max_len, progress=progress)
+            file: Any = ending.enter_context(open(0 if name == "-" else name, "rb", buffering=0, closefd=name != "-"))
+            length = None
+            if max_len is None and not stat.S_ISREG(os.fstat(file.fileno()).st_mode):
+                file = ending.enter_context(read_ahead(file))
+                length = file.tell()
+                file.seek(0)
+            filed = store.upload(file, tenant, length, max_len=max_len)
     except (Refused, OSError) as fault:
         return miss(f"{name or repr(name)}: {error_text(fault)}")
     print(check_line(filed.address, name), flush=True)
     return 0
 
 
-def read_ahead(file: Any, name: str) -> Any:
-    """A file with all bytes of another one, in memory if they are few."""
+def read_ahead(file: Any) -> Any:
+    """A file with all bytes of another one, at its end, in memory if they are few."""
+    import shutil
     import tempfile
 
-    copy, piece = tempfile.SpooledTemporaryFile(MAX_IN_MEMORY), file.read(PART_LEN)
-    with contextlib.ExitStack() as failing, contextlib.closing(Progress(name, None)) as progress:
-        failing.callback(copy.close)
-        while piece:
-            copy.write(piece)
-            progress(copy.tell())
-            piece = file.read(PART_LEN)
-        copy.seek(0)
-        failing.pop_all()
+    copy = tempfile.SpooledTemporaryFile(MAX_IN_MEMORY)
+    shutil.copyfileobj(file, copy, PART_LEN)
     return copy
 
 
 def get(store: Client, words: Any) -> int:
     """Writes an object's bytes, or a range of them."""
     tenant, (start, length) = tenant_of(store, words), words.range
-    words.output = None if words.output == "-" else words.output
     try:
-        size = store.size(tenant, words.address)
-        end = max(start, min(size, start + length))
-        is_quiet = words.output is None and os.isatty(1)
-        with output_to(words.output, words.follow) as write, contextlib.closing(Progress(words.address[:16], end - start, is_quiet)) as progress:
+        end = max(start, min(store.size(tenant, words.address), start + length))
+        with output_to(words.output) as write:
             room = memoryview(bytearray(min(PART_LEN, end - start)))
             for at in range(start, end, PART_LEN):
                 piece = room[: end - at]
                 store._fill(tenant, words.address, piece, at)
                 write(piece)
-                progress(at + piece.nbytes - start)
     except Refused as fault:
         return miss(f"{words.address}: {fault}")
     return 0
 
 
 @contextlib.contextmanager
-def output_to(path: Optional[str], follows: bool = False) -> Iterator[Callable[[memoryview], None]]:
-    """A function that writes to a file, or to standard output. A regular file gets its name when all is written, so that no half of one is left; it has the
-    owner, the group and the mode of the file that it replaces. What is no regular file, such as a pipe, is written to as it is. A link is replaced, as someone
-    else may have made it, unless it is one of the system, such as /dev/stdout, or links are to be followed."""
-    follows = path is not None and os.path.islink(path) and (follows or is_of_system(path))
-    number = 1 if path is None else descriptor_of(path) if follows else None
-    if number is not None:
-        yield writer(number, path or "standard output")
-    elif is_special(path, follows):
-        with opened(path, "wb", path, 0 if follows else os.O_NOFOLLOW) as file:
-            yield writer(file.fileno(), path)
-    else:
-        with replacing(os.path.realpath(path) if follows else path) as file:
-            yield writer(file.fileno(), path)
-
-
-def is_of_system(path: str) -> bool:
-    """Whether a path is in a folder of /dev or /proc to which no other user can write: one of /dev/shm isn't."""
+def output_to(path: str) -> Iterator[Callable[[memoryview], Any]]:
+    """A function that writes to a file, or to standard output. A regular file gets its name when all is written, so that no half of one is left. A pipe or a
+    device is written to as it is. A link is an error: someone else may have made it."""
+    if path == "-":
+        yield sys.stdout.buffer.write
+        return
     try:
-        folder = os.path.realpath(os.path.dirname(path))
-        status = os.stat(folder)
-    except OSError:
-        return False
-    return (folder + "/").startswith(("/dev/", "/proc/")) and status.st_uid in (0, os.geteuid()) and not status.st_mode & 0o022
-
-
-def descriptor_of(path: str) -> Optional[int]:
-    """The descriptor of this process that a link leads to, as /dev/stdout and /dev/fd/5 do. It is written to at its own position."""
-    with contextlib.suppress(OSError):
-        for _ in range(MAX_LINKS):
-            folder, name = os.path.split(path)
-            if name.isdigit() and os.path.samefile(folder or ".", "/proc/self/fd"):
-                return int(name)
-            path = os.path.join(folder, os.readlink(path))
-    return None
-
-
-def is_special(path: str, follows: bool) -> bool:
-    """Whether a path is something that is no regular file and no link, or leads to it if links are followed."""
-    try:
-        mode = os.stat(path, follow_symlinks=follows).st_mode
-        return not stat.S_ISREG(mode) and not stat.S_ISLNK(mode)
-    except FileNotFoundError:
-        return False
+        old = os.lstat(path) if os.path.lexists(path) else None
+        if old is not None and stat.S_ISLNK(old.st_mode):
+            raise OSError(errno.ELOOP, "it is a link: name the file that it leads to, or - for standard output")
+        if old is None or stat.S_ISREG(old.st_mode):
+            with replacing(path, old) as file:
+                yield file.write
+        else:
+            with open(path, "wb", opener=lambda name, flags: os.open(name, flags | os.O_NOFOLLOW)) as file:
+                yield file.write
     except OSError as fault:
-        raise named(fault, path) from None
-
-
-def opened(name: str, mode: str, path: str, flags: int = 0) -> Any:
-    """Opens a file. Raises OSError with a path, which may be another one."""
-    try:
-        return open(name, mode, buffering=0, opener=lambda name, others: private(name, others | flags))
-    except OSError as fault:
-        raise named(fault, path) from None
+        raise type(fault)(fault.errno, fault.strerror, path) from None
 
 
 @contextlib.contextmanager
-def replacing(path: str) -> Iterator[BinaryIO]:
-    """A new file in the folder of a path, which gets this name once it is written."""
+def replacing(path: str, old: Optional[os.stat_result]) -> Iterator[BinaryIO]:
+    """A new file in the folder of a path, which gets this name once it is written, with the owner, the group and the mode of the file that it replaces, as far
+    as the system allows it: what the old group may do is not for another one."""
     aside = os.path.join(os.path.dirname(path), f".{os.urandom(8).hex()}.part")
     try:
-        with opened(aside, "xb", path) as file:
-            give_rights(file.fileno(), path)
+        with open(aside, "xb", opener=lambda name, flags: os.open(name, flags, 0o600 if old else 0o666)) as file:
+            if old:
+                with contextlib.suppress(OSError):
+                    os.fchown(file.fileno(), old.st_uid, old.st_gid)
+                with contextlib.suppress(OSError):
+                    os.fchmod(file.fileno(), old.st_mode & (0o777 if os.fstat(file.fileno()).st_gid == old.st_gid else 0o707))
             yield file
-        rename(aside, path)
+        os.replace(aside, path)
     except BaseException:
         # a signal can come before it is made, or when it has its name
         with contextlib.suppress(OSError):
             os.unlink(aside)
         raise
-
-
-def give_rights(number: int, path: str) -> None:
-    """Gives a new file the owner, the group and the mode of a file that it will replace; in place of a link or of nothing, the mode of any new file."""
-    mask = os.umask(0)
-    os.umask(mask)
-    try:
-        old = os.lstat(path)
-    except OSError:
-        old = None
-    if old is None or stat.S_ISLNK(old.st_mode):
-        mode = 0o666 & ~mask
-    else:
-        # what the old group may do is not for another one
-        is_same = gives(number, old.st_uid, old.st_gid) or gives(number, -1, old.st_gid)
-        mode = old.st_mode & (0o777 if is_same else 0o707)
-    # not every file system has modes
-    with contextlib.suppress(OSError):
-        os.fchmod(number, mode)
-
-
-def gives(number: int, owner: int, group: int) -> bool:
-    """Gives a file to an owner, unless that is -1, and a group, and returns whether it could."""
-    try:
-        os.fchown(number, owner, group)
-        return True
-    except OSError:
-        return False
-
-
-def rename(source: str, target: str) -> None:
-    """Renames a file. Raises OSError with the new name."""
-    try:
-        os.replace(source, target)
-    except OSError as fault:
-        raise named(fault, target) from None
-
-
-def named(fault: OSError, name: str) -> OSError:
-    """The same error, with another name."""
-    return type(fault)(fault.errno, fault.strerror, name)
-
-
-def writer(number: int, name: str) -> Callable[[memoryview], None]:
-    """A function that writes all of a buffer to a descriptor, which need not be in blocking mode. It raises OSError with the name."""
-    def write(view: memoryview) -> None:
-        try:
-            write_all(number, view, None)
-        except OSError as fault:
-            raise named(fault, name) from None
-
-    return write
 
 
 def has(store: Client, words: Any) -> int:
@@ -331,29 +235,12 @@ def address_argument(text: str) -> str:
         raise argparse.ArgumentTypeError(str(fault)) from None
 
 
-def number_argument(text: str) -> int:
-    """An argument that is a number."""
-    try:
-        return check_number("a number", int(text) if text.isdigit() and text.isascii() and len(text) < 21 else text, 0, MAX_NUMBER)
-    except (TypeError, ValueError):
-        raise argparse.ArgumentTypeError(f"{text!r} is not a number below 2^64") from None
-
-
-def size_argument(text: str) -> int:
-    """An argument that is a number of bytes, also in KiB, MiB, GiB or TiB: `512M`."""
-    found = re.fullmatch("([0-9]{1,20})([KMGT]?)", text)
-    value = int(found[1]) << {"": 0, "K": 10, "M": 20, "G": 30, "T": 40}[found[2]] if found else MAX_NUMBER + 1
-    if value > MAX_NUMBER:
-        raise argparse.ArgumentTypeError(f"{text!r} is not a size, such as 1000, 512M or 4G")
-    return value
-
-
 def range_argument(text: str) -> Tuple[int, int]:
     """An argument that is a range."""
     start, colon, length = text.partition(":")
     if not colon:
         raise argparse.ArgumentTypeError(f"{text!r} is not FROM:LEN")
-    return number_argument(start or "0"), number_argument(length) if length else MAX_UPLOAD_LEN
+    return NUMBER(start or "0"), NUMBER(length or str(MAX_UPLOAD_LEN))
 
 
 class Formatter(argparse.RawDescriptionHelpFormatter):
@@ -372,7 +259,7 @@ def add_common(parser: argparse.ArgumentParser, has_tenant: bool) -> None:
     parser.add_argument("--socket", default=argparse.SUPPRESS, metavar="PATH", help="connect to this Unix-domain socket (default: B3STORE_SOCKET)")
     if has_tenant:
         parser.add_argument(
-            "-T", "--tenant", type=number_argument, default=argparse.SUPPRESS, metavar="N",
+            "-T", "--tenant", type=NUMBER, default=argparse.SUPPRESS, metavar="N",
             help="use this tenant (default: the first, opened with a limit of half of this machine's memory if there is none)",
         )
 
@@ -393,11 +280,10 @@ def make_parser() -> argparse.ArgumentParser:
     commands = parser.add_subparsers(required=True, dest="command", metavar="COMMAND")
     add = add_command(commands, put, "put", "store files, and print their addresses")
     add("files", nargs="+", metavar="FILE", help="a file; - is standard input")
-    add("--max-len", type=size_argument, metavar="SIZE", help="reserve SIZE bytes, as 4G, and store the file as it is read (default for a pipe: read it first)")
+    add("--max-len", type=size, metavar="SIZE", help="reserve SIZE bytes, as 4G, and store the file as it is read (default for a pipe: read it first)")
     add = add_command(commands, get, "get", "write an object's bytes")
     add("address", type=address_argument, metavar="ADDRESS")
-    add("-o", "--output", metavar="FILE", help="write to this file (default: -, standard output)")
-    add("--follow", action="store_true", help="if this file is a link, write to what it leads to; otherwise the link is replaced")
+    add("-o", "--output", default="-", metavar="FILE", help="write to this file (default: -, standard output)")
     add("--range", type=range_argument, default=(0, MAX_UPLOAD_LEN), metavar="FROM:LEN", help="write LEN bytes, starting at byte FROM; without LEN, all bytes from there on")
     add = add_command(commands, has, "has", "print which of these objects the tenant holds, with their lengths")
     add("addresses", nargs="+", type=address_argument, metavar="ADDRESS")
@@ -405,15 +291,15 @@ def make_parser() -> argparse.ArgumentParser:
     add = add_command(commands, rm, "rm", "stop holding objects for the tenant")
     add("addresses", nargs="+", type=address_argument, metavar="ADDRESS")
     add = add_command(commands, open_tenant, "tenant", "open a tenant, which can't be closed, and print its number", False)
-    add("limit", type=size_argument, metavar="LIMIT", help="how many bytes it may hold, as 512M or 4G")
+    add("limit", type=size, metavar="LIMIT", help="how many bytes it may hold, as 512M or 4G")
     add = add_command(commands, set_limit, "limit", "change the tenant's limit")
-    add("limit", type=size_argument, metavar="LIMIT", help="how many bytes it may hold, as 512M or 4G")
+    add("limit", type=size, metavar="LIMIT", help="how many bytes it may hold, as 512M or 4G")
     add_command(commands, show_usage, "usage", "print what the tenant uses and reserves, and its limit")
     add_command(commands, show_stat, "stat", "print what the store contains", False)
     add_command(commands, show_tenants, "tenants", "print what each tenant uses and reserves, and its limit", False)
     add = add_command(commands, show_journal, "journal", "print the journal's entries", False)
-    add("--from", dest="start", type=number_argument, default=0, metavar="N", help="start at entry N (default 0)")
-    add("--count", type=number_argument, default=MAX_NUMBER, metavar="N", help="print up to N entries")
+    add("--from", dest="start", type=NUMBER, default=0, metavar="N", help="start at entry N (default 0)")
+    add("--count", type=NUMBER, default=MAX_NUMBER, metavar="N", help="print up to N entries")
     return parser
 
 

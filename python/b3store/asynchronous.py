@@ -6,15 +6,12 @@ from types import TracebackType
 from typing import Any, AsyncIterator, Awaitable, Callable, Optional, Type, TypeVar
 
 from .transfers import Transfers
-from .values import MAX_SESSIONS, RANGE_LEN, Filed, check_number
+from .values import MAX_SESSIONS, RANGE_LEN, check_number
 
 Value = TypeVar("Value")
 
-METHODS = frozenset((
-    "abort", "begin", "begin_open", "counts", "entries", "fetch", "fetch_into", "file", "file_all", "fix", "forget", "forget_all", "has", "limit", "list",
-    "objects", "put", "redo", "run_lines", "size", "stat", "tenant", "tenants", "upload", "uploads", "usage",
-))
-"""The methods of a store that are coroutine functions of its AsyncStore."""
+OTHERS = frozenset(("close", "journal", "open", "ranges", "start_upload"))
+"""The methods of a store that return no value, but something that is used step by step."""
 
 
 class AsyncStore:
@@ -25,8 +22,8 @@ class AsyncStore:
             tenant = await store.tenant()
             rows = await asyncio.gather(*(store.upload(content, tenant) for content in contents))
 
-    It has most methods of `Store` (METHODS), and `run` runs any other. Each raises the same errors. If a coroutine is cancelled, its command still runs to
-    its end, unless it waits for a thread: then it isn't run."""
+    It has the methods of `Store` that return a value, and `ranges`; `run` runs any other. Each raises the same errors. If a coroutine is cancelled, its command
+    still runs to its end, unless it waits for a thread: then it isn't run."""
 
     def __init__(self, store: Transfers, threads: int = 4) -> None:
         if not isinstance(store, Transfers):
@@ -55,13 +52,9 @@ class AsyncStore:
 
     def __getattr__(self, name: str) -> Callable[..., Awaitable[Any]]:
         """A coroutine function for a method of the store."""
-        if name not in METHODS:
+        if name.startswith("_") or name in OTHERS or not hasattr(Transfers, name):
             raise AttributeError(f"{type(self).__name__!r} object has no attribute {name!r}")
         return functools.partial(self.run, getattr(self.store, name))
-
-    async def seal(self, upload: int, address: Optional[str] = None) -> Filed:
-        """See `Store.seal` and `Store.seal_as`."""
-        return await (self.run(self.store.seal, upload) if address is None else self.run(self.store.seal_as, upload, address))
 
     async def ranges(self, tenant: int, address: str, length: int = RANGE_LEN) -> AsyncIterator[bytes]:
         """See `Store.ranges`."""

@@ -1,22 +1,18 @@
 """The commands of a store, as lines: of a server (client.py), or of the library (store.py)."""
-import contextlib
 import sys
 from types import TracebackType
-from typing import Callable, Dict, Iterator, List, Optional, Sequence, Tuple, Type, TypeVar
+from typing import Callable, Dict, Iterator, List, Optional, Tuple, Type, TypeVar
 
-from .sessions import MAX_AHEAD_LINES, Kinds, Session, not_blocking, write_all, write_slowly
+from .sessions import Kinds, Session
 from .values import (
-    MAX_REDONE, MAX_UPLOAD_LEN, PART_LEN, RANGE_LEN, Buffer, Counts, Filed, Held, ObjectPage, OpenUpload, Redone, Refused, Totals, Usage, check_address,
-    check_bytes, check_number, check_room, check_seconds, half_of_memory, parse_asked, parse_count, parse_digits, parse_held, parse_labelled, parse_length,
-    parse_number, parse_object, parse_open_upload, parse_usage,
+    MAX_REDONE, MAX_UPLOAD_LEN, RANGE_LEN, Buffer, Counts, Filed, Held, ObjectPage, OpenUpload, Redone, Refused, Totals, Usage, check_address, check_bytes,
+    check_number, check_room, half_of_memory, parse_asked, parse_count, parse_digits, parse_held, parse_labelled, parse_length, parse_number, parse_object,
+    parse_open_upload, parse_usage,
 )
 
 Key = TypeVar("Key")
 Value = TypeVar("Value")
 Self = TypeVar("Self", bound="Commands")
-
-MAX_DESCRIPTOR = (1 << 31) - 1
-"""The maximum number of a descriptor: those of the system are signed."""
 
 
 class Commands:
@@ -90,27 +86,6 @@ class Commands:
         line = f"file {tenant} {view.nbytes}" if address is None else f"fileas {tenant} {address} {view.nbytes}"
         return self._talk(lambda session, words: parse_asked(words, address, view.nbytes), ("new", "known"), line, view)
 
-    def file_all(self, tenant: int, contents: Sequence[Buffer]) -> List[Filed]:
-        """Files several contents, each as `file` does. If one is refused, those before it are filed."""
-        tenant, views = check_number("tenant", tenant), [check_bytes(content) for content in contents]
-        return [self.file(tenant, view) for view in views]
-
-    def forget_all(self, tenant: int, addresses: Sequence[str]) -> None:
-        """Stops holding several objects for a tenant, each as `forget` does, but in few turns. If one is refused, the others are still forgotten."""
-        begin = f"forget {check_number('tenant', tenant)}"
-        lines = [f"{begin} {check_address(address)}\n" for address in addresses]
-        refusals: List[Refused] = []
-
-        def forget(session: Session) -> None:
-            for start in range(0, len(lines), MAX_AHEAD_LINES):
-                batch = lines[start : start + MAX_AHEAD_LINES]
-                session.write("".join(batch).encode())
-                refusals.extend(session.answers(["ok"] * len(batch))[1])
-
-        self._in_turn(forget)
-        if refusals:
-            raise refusals[0]
-
     def forget(self, tenant: int, address: str) -> None:
         """Stops holding an object for a tenant. The object is removed when no tenant holds it any more. Refusals: S1, S12."""
         self._do(f"forget {check_number('tenant', tenant)} {check_address(address)}")
@@ -144,27 +119,6 @@ class Commands:
         """Reads bytes that the object is known to have into a whole buffer. Refusals: S1, S12."""
         line = fetch_line(tenant, address, offset, view.nbytes)
         self._talk(lambda session, words: session.content_into(words, view, view.nbytes), "bytes", line)
-
-    def fetch_to(
-        self, tenant: int, address: str, target: int, offset: int = 0, length: int = MAX_UPLOAD_LEN, seconds: Optional[float] = None
-    ) -> int:
-        """Writes up to `length` bytes of an object, starting at `offset`, to the descriptor of a file, a pipe or a socket, and returns how many. Other commands
-        can run while this waits for room. The descriptor's mode isn't changed. Raises OSError if it can't be written to, TimeoutError if it has no room for
-        `seconds`. Refusals: S1, S12."""
-        offset, length = check_number("offset", offset), check_number("length", length)
-        target, seconds = check_number("target", target, 0, MAX_DESCRIPTOR), check_seconds("seconds", seconds)
-        with contextlib.ExitStack() as ending:
-            other, first = not_blocking(target, ending), offset
-            while True:
-                wanted = min(PART_LEN, length)
-                content = self.fetch(tenant, address, offset, wanted)
-                if other is None:
-                    write_slowly(target, content, seconds)
-                else:
-                    write_all(other, content, seconds)
-                offset, length = offset + len(content), length - len(content)
-                if len(content) < wanted or length == 0:
-                    return offset - first
 
     def ranges(self, tenant: int, address: str, length: int = RANGE_LEN) -> Iterator[bytes]:
         """Yields an object's bytes in ranges of `length`. Other commands can run between two of them. Refusals: S1, S12."""

@@ -75,7 +75,7 @@ def make_same(source: Client, target: Client) -> int:
         if tenant >= has:
             target.tenant(limit)
         held = target.list(tenant)
-        target.forget_all(tenant, [address for address in held if address not in wanted])
+        target.run_lines(b"".join(b"forget %d %s\n" % (tenant, address.encode()) for address in held if address not in wanted))
         target.limit(tenant, limit)
         for address in wanted:
             # what is forgotten meanwhile is redone later

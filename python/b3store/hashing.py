@@ -4,84 +4,28 @@
     >>> blake3(b"abc").hexdigest()
     '6437b3ac38465133ffb63b75273a8db548c558465d79db03fd359c6cd5bd9d85'
 
-`python -m b3store.hashing [--threads N] [FILE ..]` prints a line for each file, as b3sum does. `./install` installs the library; the environment variable
-B3STORE_LIBRARY names another one, which may be libb3. Without one, importing this module raises ImportError. Hashing more than 4 KiB lets other threads run.
-"""
-from .programs import end_at_once
-
-if __name__ == "__main__":
-    end_at_once()
-
-import argparse
-import concurrent.futures
+`./install` installs the library; the environment variable B3STORE_LIBRARY names another one, which may be libb3. Without one, importing this module raises
+ImportError. Hashing more than 4 KiB lets other threads run."""
 import ctypes
-import errno
-import io
-import os
 import sys
-from typing import Any, BinaryIO, Callable, List, Optional, Union
+from typing import Any, BinaryIO, List, Optional
 
-from .console import FAILED, check_line, error_text, finish, report
 from .library import SIZE, U64, address_of, load
 from .transfers import read_full
-from .values import CHUNK_LEN, Buffer, check_bytes, check_number
+from .values import PART_LEN, Buffer, check_bytes, check_number
 
-SPAN_LEN = 1 << 20
-"""The length of the subtrees that threads hash."""
 SMALL_LEN = 1 << 12
 """Up to this many bytes are kept, and hashed by one call that keeps the interpreter's lock."""
 HASH_LEN = 32
 START = 0
 KEY_LEN = 32
 HASH, KEYED_HASH, DERIVE_KEY = range(3)
-EPILOG = """\
-example:
-  $ printf abc | python -m b3store.hashing
-  6437b3ac38465133ffb63b75273a8db548c558465d79db03fd359c6cd5bd9d85  -
-
-exit status: 0 done; 1 a file can't be read; 2 usage error; 3 writing failed, or there is no libb3store
-"""
-FAULTS = {1: "the output has the wrong length", 2: "the key has the wrong length", 3: "the bytes are past the output's end", 4: "no subtree", 5: "no hasher"}
-
-
-def read_words() -> argparse.Namespace:
-    """The words of the command line."""
-    parser = argparse.ArgumentParser(
-        "b3store.hashing", description="Print the BLAKE3 hash of each file, or of standard input.", epilog=EPILOG,
-        formatter_class=argparse.RawDescriptionHelpFormatter,
-    )
-    parser.add_argument("--threads", type=int, default=1, metavar="N", help="hash each file with N threads (default 1)")
-    parser.add_argument("files", nargs="*", default=["-"], metavar="FILE", help="a file; - is standard input")
-    words = parser.parse_args()
-    if not 1 <= words.threads <= 1024:
-        parser.error("--threads is from 1 to 1024")
-    return words
-
-
-FUNCTIONS = (
-    "b3_hash", "b3_keyed_hash", "b3_derive_key", "b3_extended", "b3_hasher_init", "b3_hasher_update", "b3_hasher_extended", "b3_subtree", "b3_parent",
-    "b3_root",
-)
-"""The functions of the library that this module calls."""
-
-
-if __name__ == "__main__":
-    read_words()  # `--help` needs no library
+FAULTS = {1: "the output has the wrong length", 2: "the key has the wrong length", 3: "the bytes are past the output's end"}
 
 try:
-    library, small_library = load(FUNCTIONS)
+    library, small_library = load(("b3_hash", "b3_keyed_hash", "b3_derive_key", "b3_extended", "b3_hasher_init", "b3_hasher_update", "b3_hasher_extended"))
 except OSError as fault:
-    if __name__ != "__main__":
-        raise ImportError(str(fault)) from None
-    report(str(fault))
-    sys.exit(FAILED)
-
-
-class Value(ctypes.Structure):
-    """The chaining value of a node."""
-
-    _fields_ = [("words", ctypes.c_uint32 * 8)]
-
+    raise ImportError(str(fault)) from None
 
 Hasher: Any = ctypes.c_uint64 * 946
 """The memory of a hasher, whose fields are the library's."""
@@ -93,9 +37,6 @@ library.b3_extended.argtypes = [ctypes.c_uint32, *SLICE, *SLICE, ctypes.c_uint64
 library.b3_hasher_init.argtypes = [ctypes.POINTER(Hasher), ctypes.c_uint32, *SLICE, COUNT]
 library.b3_hasher_update.argtypes = [ctypes.POINTER(Hasher), *SLICE, COUNT]
 library.b3_hasher_extended.argtypes = [ctypes.POINTER(Hasher), ctypes.c_uint64, *SLICE, COUNT]
-library.b3_subtree.argtypes = [*SLICE, *SLICE, ctypes.c_uint64, ctypes.POINTER(Value), COUNT]
-library.b3_parent.argtypes = [*SLICE, Value, Value, ctypes.POINTER(Value), COUNT]
-library.b3_root.argtypes = [*SLICE, Value, Value, *SLICE, COUNT]
 
 small_hash: Any = small_library.b3_hash
 small_hashes: Any = {KEYED_HASH: small_library.b3_keyed_hash, DERIVE_KEY: small_library.b3_derive_key}
@@ -111,10 +52,6 @@ class Bytes:
     def __init__(self, data: Buffer) -> None:
         self.kept = check_bytes(data)
         self.length, self.address = self.kept.nbytes, address_of(self.kept)
-
-    def part(self, start: int, end: int) -> List[int]:
-        """The address and the length of a part."""
-        return [self.address + start, end - start]
 
     def whole(self) -> List[int]:
         """The address and the length of all of it."""
@@ -221,118 +158,14 @@ def keyed(key: Optional[Buffer], context: Optional[str]) -> Any:
     return DERIVE_KEY, context.encode()
 
 
-def hash_spans(key: Bytes, length: int, threads: int, hash_span: Callable[[int, int, Value], None]) -> bytes:
-    """The hash of more than one span: each thread hashes a span in turn, and then two neighbours become their parent."""
-    starts = iter(range(0, length, SPAN_LEN))
-    values = [Value() for _ in range(0, length, SPAN_LEN)]
-
-    def work() -> None:
-        for start in starts:
-            hash_span(start, min(start + SPAN_LEN, length), values[start // SPAN_LEN])
-
-    with concurrent.futures.ThreadPoolExecutor(threads) as pool:
-        try:
-            for worker in [pool.submit(work) for _ in range(threads)]:
-                worker.result()
-        finally:
-            # after an interrupt no thread begins another span
-            for _ in starts:
-                pass
-    while len(values) > 2:
-        values = [parent_of(key, values[at : at + 2]) for at in range(0, len(values), 2)]
-    return output_of(HASH_LEN, library.b3_root, *key.whole(), *values)
-
-
-def parent_of(key: Bytes, pair: List[Value]) -> Value:
-    """The chaining value of the parent of two nodes, or one node's own."""
-    if len(pair) == 1:
-        return pair[0]
-    value = Value()
-    call(library.b3_parent, *key.whole(), *pair, value)
-    return value
-
-
-def digest_by_threads(data: Buffer, threads: Optional[int] = None, key: Buffer = b"") -> bytes:
-    """Returns the hash of bytes, or the keyed hash if there is a key, by `threads` threads (default: one for each processor). Raises TypeError or ValueError."""
-    whole, word, threads = Bytes(data), Bytes(bytes(check_bytes(key))), thread_count(threads)
-    if whole.length <= SPAN_LEN:
-        return blake3(data, key=word.kept or None).digest()
-
-    def hash_span(start: int, end: int, value: Value) -> None:
-        call(library.b3_subtree, *word.whole(), *whole.part(start, end), start // CHUNK_LEN, value)
-
-    return hash_spans(word, whole.length, threads, hash_span)
-
-
-def file_digest(file: BinaryIO, threads: Optional[int] = None) -> bytes:
-    """Returns the hash of a file's bytes from its position on. A regular file of more than 1 MiB at its start is read by `threads` threads (default:
-    one for each processor), and its position stays; others, and all if `threads` is 1, are read to their end by this thread. Raises OSError, also if
-    the file is truncated meanwhile, BlockingIOError if it is not in blocking mode and has no bytes, and TypeError if it doesn't return bytes."""
+def file_digest(file: BinaryIO) -> bytes:
+    """Returns the hash of a file's bytes from its position on. Raises OSError, BlockingIOError if it is not in blocking mode and has no bytes, and TypeError if
+    it doesn't return bytes."""
     if not hasattr(file, "read"):
         raise TypeError(f"a file must be open for reading bytes, unlike {type(file).__name__}")
-    threads, size = thread_count(threads), size_at_start(file)
-    if threads > 1 and size > SPAN_LEN:
-        return digest_of_descriptor(file.fileno(), size, threads)
-    hasher, room = blake3(), bytearray(SPAN_LEN)
-    view = memoryview(room)
+    hasher, room = blake3(), memoryview(bytearray(PART_LEN))
     while True:
-        count = read_full(file, view)
-        hasher.update(view[:count])
-        if count < len(view):
+        count = read_full(file, room)
+        hasher.update(room[:count])
+        if count < len(room):
             return hasher.digest()
-
-
-def digest_of_descriptor(number: int, size: int, threads: int) -> bytes:
-    """The hash of an open file's first `size` bytes."""
-    no_key = Bytes(b"")
-
-    def hash_span(start: int, end: int, value: Value) -> None:
-        room = bytearray(end - start)
-        view, count = memoryview(room), 0
-        while count < len(room):
-            got = os.preadv(number, [view[count:]], start + count)
-            if got == 0:
-                raise OSError("the file was truncated while it was read")
-            count += got
-        call(library.b3_subtree, *no_key.whole(), *Bytes(room).whole(), start // CHUNK_LEN, value)
-
-    return hash_spans(no_key, size, threads, hash_span)
-
-
-def size_at_start(file: BinaryIO) -> int:
-    """The length of a regular file that is at its start; 0 for others, also for one that decodes what it reads, such as gzip's."""
-    try:
-        is_plain = isinstance(getattr(file, "raw", file), io.FileIO)
-        return os.fstat(file.fileno()).st_size if is_plain and file.seekable() and file.tell() == 0 else 0
-    except (AttributeError, OSError):
-        return 0
-
-
-def thread_count(threads: Optional[int]) -> int:
-    """The number of threads that is asked for."""
-    return len(os.sched_getaffinity(0)) if threads is None else check_number("threads", threads, 1, 1024)
-
-
-def print_hash(name: str, threads: int) -> bool:
-    """Prints the line of a file, and returns whether it could be read."""
-    source: Union[str, int] = 0 if name == "-" else name
-    try:
-        if name == "-" and sys.stdin is None:
-            raise OSError(errno.EBADF, "standard input is closed")
-        with open(source, "rb", buffering=0, closefd=name != "-") as file:
-            digest = file_digest(file, 1 if name == "-" else threads)
-    except (OSError, ValueError) as fault:
-        report(f"{name}: {error_text(fault)}")
-        return False
-    print(check_line(digest.hex(), name))
-    return True
-
-
-def run() -> int:
-    """Runs the program `python -m b3store.hashing`, and lets exceptions pass."""
-    words = read_words()
-    return 0 if all([print_hash(name, words.threads) for name in words.files]) else 1
-
-
-if __name__ == "__main__":
-    sys.exit(finish(run))

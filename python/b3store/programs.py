@@ -14,6 +14,8 @@ if TYPE_CHECKING:
 
 ENDING = (signal.SIGTERM, signal.SIGINT, signal.SIGHUP, signal.SIGQUIT)
 """The signals that end a program."""
+ENDED = tuple(128 + number for number in ENDING)
+"""The exit statuses of a program that they have ended."""
 OTHERS = (signal.SIGUSR1, signal.SIGUSR2, signal.SIGALRM, signal.SIGVTALRM, signal.SIGPROF, signal.SIGIO)
 """Signals that would end a program at once. A server ignores them, as everything in its store would be lost."""
 
@@ -24,33 +26,22 @@ def end_at_once() -> None:
         signal.signal(signal.SIGINT, signal.SIG_DFL)
 
 
-def raise_again() -> None:
-    """Lets Ctrl-C raise KeyboardInterrupt again, after `end_at_once`."""
-    if signal.getsignal(signal.SIGINT) is signal.SIG_DFL:
-        signal.signal(signal.SIGINT, signal.default_int_handler)
-
-
 def handle_ending(handler: "Any") -> None:
-    """Sets a server's handler of the signals that end a program. SIGHUP stays ignored if it is, as `nohup` wants it."""
+    """Sets the handler of the signals that end a program, but for those that are ignored, as by `nohup` or in the background of a shell."""
     for number in ENDING:
-        if number != signal.SIGHUP or signal.getsignal(number) is not signal.SIG_IGN:
+        if signal.getsignal(number) is not signal.SIG_IGN:
             signal.signal(number, handler)
 
 
 def exit_at_ending() -> None:
-    """Lets the first signal that ends a server raise SystemExit. Later ones have no effect, so that they interrupt nothing that is tidied up. Signals that are
-    for something else are ignored."""
-    is_ending = False
+    """Lets the first signal that ends a program raise SystemExit, with 128 and its number. Later ones have no effect, so that they interrupt nothing that is
+    tidied up."""
 
-    def end(*_: "Any") -> None:
-        nonlocal is_ending
-        if not is_ending:
-            is_ending = True
-            sys.exit(0)
+    def end(number: int, _: "Any") -> None:
+        handle_ending(signal.SIG_IGN)
+        sys.exit(128 + number)
 
     handle_ending(end)
-    for number in OTHERS:
-        signal.signal(number, signal.SIG_IGN)
 
 
 @contextlib.contextmanager

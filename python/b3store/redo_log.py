@@ -11,7 +11,7 @@ import os
 import stat
 import threading
 import time
-from typing import BinaryIO, Callable, NamedTuple, Optional, Set
+from typing import BinaryIO, Callable, NamedTuple, Optional
 
 from . import TYPE_CHECKING
 from .console import count_text
@@ -26,8 +26,8 @@ if TYPE_CHECKING:
 LOG = "log"
 NEW_LOG = "log.new"
 CLEAN = "clean"
-IGNORED = frozenset((NEW_LOG, CLEAN, "lost+found"))
-"""Names that a folder without a log may have: what a server that was killed leaves, and what a new file system has."""
+IGNORED = {NEW_LOG, CLEAN, "lost+found"}
+"""Names that a folder without a log may have: what a process that was killed leaves, and what a new file system has."""
 LINE_LEN = 88
 """About how long a line of a log is."""
 COUNTS = (MAX_REDONE, 1 << 6, 1)
@@ -40,8 +40,6 @@ SECONDS_OF_WRITING = 0.5
 """For how long a log is written anew before the old one is extended again."""
 SECONDS_BETWEEN_TRIES = 60.0
 """How long after a log couldn't be written anew this is tried again."""
-MAX_ROUNDS = 3
-"""How often a store is saved that is changed meanwhile."""
 ERRORS = (OSError, StoreError, MemoryError, ValueError)
 """What can fail."""
 
@@ -61,16 +59,17 @@ class Folder(NamedTuple):
         """Opens one of its files."""
         return open(name, mode, buffering, opener=opener_in(self.number))  # type: ignore[return-value]
 
-    def names(self) -> Set[str]:
-        """The names of its files."""
-        return set(os.listdir(self.number))
-
     def status(self, name: str) -> os.stat_result:
         """The status of a file. Raises OSError, and SaveError for a link and anything else that is no file."""
         found = os.stat(name, dir_fd=self.number, follow_symlinks=False)
         if not stat.S_ISREG(found.st_mode):
             raise SaveError(f"{self.path}/{name} is not a file; nothing was changed")
         return found
+
+    def remove(self, name: str) -> None:
+        """Removes a file, if there is one."""
+        with contextlib.suppress(FileNotFoundError):
+            os.unlink(name, dir_fd=self.number)
 
 
 class LogFile:
@@ -81,13 +80,15 @@ class LogFile:
         self.length, self.entry = self._synced = 0, 0
 
     def status(self) -> os.stat_result:
+        """The status of the file."""
         return os.fstat(self._file.fileno())
 
     def close(self) -> None:
+        """Closes the file."""
         self._file.close()
 
     def begin(self, length: int, entry: int) -> int:
-        """Goes on after the bytes that were restored, and removes others. Returns how many these were."""
+        """Goes on after bytes that have what a store has up to an entry, and removes others. Returns how many these were."""
         torn = self.status().st_size - length
         if torn:
             os.ftruncate(self._file.fileno(), length)
@@ -111,11 +112,6 @@ class LogFile:
             raise
         return self.entry >= target
 
-    def goes_on(self, entry: int) -> None:
-        """Goes on with this entry of another store, which has all that the log has. The log must be synced."""
-        self.entry = entry
-        self._synced = self.length, entry
-
     def sync(self) -> None:
         """Syncs what was written since the last time. If that fails, it will be written again: the system may have dropped it."""
         if self._synced == (self.length, self.entry):
@@ -135,11 +131,11 @@ class LogFile:
             # all pieces have to be read, as others use the session too
             nonlocal end, fault
             try:
-                if fault is None:
-                    write_at(self._file.fileno(), piece, end)
+                while fault is None and piece.nbytes:
+                    count = os.pwrite(self._file.fileno(), piece, end)
+                    piece, end = piece[count:], end + count
             except OSError as error:
                 fault = error
-            end += piece.nbytes
             tick()
 
         for count in COUNTS:
@@ -173,30 +169,32 @@ class RedoLog:
         """Opens a folder, which is made if there is none. Raises SaveError, and changes nothing, if another process has it, or if it has other files and no
         log. If `syncs` is false, only `finish` syncs the log, and what is long. `report` is called with a line about what goes wrong later."""
         self._report, self._syncs = report, syncs
-        self._folder = open_folder(path)
         self._lock = threading.Lock()
         self._is_finished = self._is_folder_synced = self._is_restored = False
         self._new: Optional[LogFile] = None
         self._next_try, self._min_len = -math.inf, MIN_REPLACED_LEN
         """When the log is written anew at the earliest, and how long it must be then."""
-        self._fault = self._fault_anew = ""
-        """What was reported last, while the log can't be written, or not anew."""
+        self.fault = self._fault_anew = ""
+        """Why the log can't be written, or not anew, as long as it can't: what was reported. Otherwise empty."""
         try:
+            self._folder = open_folder(path)
             self._open()
+        except FolderInUse as error:
+            raise SaveError(str(error)) from None
         except (OSError, MemoryError) as error:
             raise SaveError(f"cannot use the folder {path}: {reason_of(error)}") from None
 
     def _open(self) -> None:
         """Opens the log, or makes one. A folder that can't be written to is noticed here."""
-        names = self._folder.names()
+        names = set(os.listdir(self._folder.number))
         if LOG not in names:
-            check_unused(self._folder, "no saved store: name a folder that is empty or doesn't exist")
+            if names - IGNORED:
+                raise SaveError(f"{self._folder.path} holds {min(names - IGNORED)!r} and no saved store: name a folder that is empty or doesn't exist")
             create_anew(self._folder.number, LOG).close()
-        status = self._folder.status(LOG)
-        self._is_clean = CLEAN in names or not status.st_size
+        self._is_clean = CLEAN in names or not self._folder.status(LOG).st_size
         self._log = LogFile(self._folder.open(LOG, "r+b", 0))
         create_anew(self._folder.number, NEW_LOG).close()
-        os.unlink(NEW_LOG, dir_fd=self._folder.number)
+        self._folder.remove(NEW_LOG)
 
     def restore(self, store: Transfers, tick: Tick = lambda: None) -> Optional[str]:
         """Restores the store into a new one, and returns what it has; None if it has nothing. Removes an incomplete line at the log's end, and reports objects
@@ -207,9 +205,7 @@ class RedoLog:
                 length = run_lines(store, file, tick, lambda error: self._report(f"{path}: {error}: this object is damaged, and not restored"))
             counts = store.counts()
             torn, self._is_restored = self._log.begin(length, counts.entries), True
-            for name in NEW_LOG, CLEAN:
-                with contextlib.suppress(FileNotFoundError):
-                    os.unlink(name, dir_fd=self._folder.number)
+            self._folder.remove(CLEAN)
         except LogError as error:
             advice = f"nothing was changed; `truncate -s {error.offset}` would keep the lines before it"
             raise SaveError(f"{path}: {error}; {advice}") from None
@@ -227,11 +223,11 @@ class RedoLog:
                 return False
             try:
                 counts = self._append(store, lambda: None)
-                if self._fault:
+                if self.fault:
                     self._report(f"the log in {self._folder.path} is written again")
-                self._fault = ""
+                self.fault = ""
             except Exception as error:  # whatever it is, the store is used further
-                self._fault = self._reported(f"the log in {self._folder.path} can't be written: {reason_of(error)}", self._fault, error)
+                self.fault = self._reported(f"the log in {self._folder.path} can't be written: {reason_of(error)}", self.fault, error)
                 return False
             try:
                 if self._new is not None or self._pays(store, counts):
@@ -253,9 +249,8 @@ class RedoLog:
         with self._lock:
             self._drop_new()
             self._append(store, lambda: None)
-            self._log.sync()
             new = renew(store)
-            self._log.goes_on(new.counts().entries)
+            self._log.begin(self._log.length, new.counts().entries)
             return new
 
     def finish(self, store: Transfers, tick: Tick = lambda: None) -> str:
@@ -263,26 +258,17 @@ class RedoLog:
         followed again."""
         with self._lock:
             try:
-                for _ in range(MAX_ROUNDS):
-                    self._append(store, tick)
-                    counts = store.counts()
-                    if counts.entries <= self._log.entry:
-                        break
-                else:
-                    self._report("the store was changed again and again while it was saved: the log may not have all of that")
+                counts = self._append(store, tick)
                 self._drop_new()
                 self._log.sync()
-                path = self._find()
                 create_anew(self._folder.number, CLEAN).close()
                 self._sync_folder()
-            except SaveError:
-                raise
             except ERRORS as error:
                 with contextlib.suppress(OSError):
-                    os.unlink(CLEAN, dir_fd=self._folder.number)
+                    self._folder.remove(CLEAN)
                 raise SaveError(f"the store can't be saved in {self._folder.path}, which has what was saved before: {reason_of(error)}") from None
             self._is_finished = True
-            return counts_text(counts) + path
+            return counts_text(counts)
 
     def _append(self, store: Transfers, tick: Tick) -> Counts:
         """Appends all that was changed until now, and returns what the store had then. A log that was removed, replaced or truncated, or that wasn't restored,
@@ -290,7 +276,6 @@ class RedoLog:
         counts = store.counts()
         if not (self._is_restored and self._is_in_place()):
             self._drop_new()
-            self._find()
             self._write_anew(store, counts, tick)
         if not self._is_folder_synced:
             self._sync_folder()
@@ -308,19 +293,6 @@ class RedoLog:
         except (OSError, SaveError):
             return False
         return os.path.samestat(found, self._log.status()) and found.st_size >= self._log.length
-
-    def _find(self) -> str:
-        """Finds the folder that is locked, and returns where it is if it was moved: another one that has its path may be in use. If it was removed, one is made
-        and locked."""
-        path, number = self._folder
-        if is_at(number, path):
-            return ""
-        moved = os.readlink(f"/proc/self/fd/{number}")
-        if is_at(number, moved):
-            return f" in {moved}"
-        self._folder = open_folder(path, "is not the folder that was locked, which was removed: nothing is saved")
-        os.close(number)
-        return ""
 
     def _pays(self, store: Transfers, counts: Counts) -> bool:
         """Whether the log is more than twice as long as a new one would be, if it has a line for each object. Several may hold the same: then it has more."""
@@ -345,8 +317,7 @@ class RedoLog:
         self._min_len = 2 * self._new.length if end < math.inf and 2 * self._new.length > self._log.length else MIN_REPLACED_LEN
         self._log.close()
         self._log, self._new, self._is_folder_synced, self._is_restored = self._new, None, False, True
-        with contextlib.suppress(FileNotFoundError):
-            os.unlink(CLEAN, dir_fd=self._folder.number)
+        self._folder.remove(CLEAN)
         self._sync_folder()
 
     def _sync_folder(self) -> None:
@@ -360,19 +331,12 @@ class RedoLog:
             self._new.close()
             self._new = None
             with contextlib.suppress(OSError):
-                os.unlink(NEW_LOG, dir_fd=self._folder.number)
+                self._folder.remove(NEW_LOG)
 
 
 def counts_text(counts: Counts) -> str:
     """Says how much a store has."""
     return f"{count_text(counts.objects, 'object')} and {count_text(counts.tenants, 'tenant')}"
-
-
-def write_at(file: int, content: memoryview, at: int) -> None:
-    """Writes bytes to a place of a file."""
-    while content.nbytes:
-        count = os.pwrite(file, content, at)
-        content, at = content[count:], at + count
 
 
 def reason_of(error: BaseException) -> str:
@@ -382,71 +346,21 @@ def reason_of(error: BaseException) -> str:
     return getattr(error, "strerror", None) or str(error)
 
 
-def open_folder(path: str, fault: Optional[str] = None) -> Folder:
-    """Opens and locks a folder, which is made if there is none. Raises SaveError, also for one that another user could change, and if a fault is given, with
-    this fault for one that has files."""
-    try:
-        make_folder(path)
-        folder = Folder(path, lock_folder(path))
-    except FolderInUse as error:
-        raise SaveError(str(error)) from None
-    except OSError as error:
-        raise SaveError(f"cannot open the folder {path}: {error.strerror}") from None
-    try:
-        check_safe(folder)
-        if fault is not None:
-            check_unused(folder, fault)
-    except BaseException:
-        os.close(folder.number)
-        raise
-    return folder
-
-
-def check_safe(folder: Folder) -> None:
-    """Raises SaveError if a folder belongs to another user, or others may write to it: they could replace what is saved."""
-    found = os.fstat(folder.number)
-    if found.st_uid != os.geteuid():
-        raise SaveError(f"{folder.path} belongs to another user: name a folder of your own")
-    if found.st_mode & (stat.S_IWGRP | stat.S_IWOTH):
-        raise SaveError(f"{folder.path} can be written to by others: chmod go-w {folder.path}")
-
-
-def is_at(folder: int, path: str) -> bool:
-    """Whether a path names an open folder."""
-    try:
-        return os.path.samestat(os.fstat(folder), os.stat(path))
-    except OSError:
-        return False
-
-
-def check_unused(folder: Folder, fault: str) -> None:
-    """Raises SaveError if a folder has files."""
-    names = folder.names() - IGNORED
-    if names:
-        raise SaveError(f"{folder.path} holds {min(names)!r} and {fault}")
-
-
-def make_folder(path: str) -> None:
-    """Makes a folder that only this user can enter, and those above it, if there are none. Each folder that gets one is synced."""
-    missing, above = [], path.rstrip("/")
-    while above and not is_there(above):
-        missing.append(above)
-        above = os.path.dirname(above)
-    for new in reversed(missing):
-        # a/. and a/.. are there once a is
-        with contextlib.suppress(FileExistsError):
-            os.mkdir(new, 0o700 if new == missing[0] else 0o777)
-        parent = os.open(os.path.dirname(new) or ".", os.O_RDONLY | os.O_DIRECTORY)
+def open_folder(path: str) -> Folder:
+    """Opens and locks a folder, which is made if there is none. Raises OSError, FolderInUse, and SaveError for one that another user could change: what is saved
+    could be replaced."""
+    with contextlib.suppress(FileExistsError):
+        os.mkdir(path, 0o700)
+        above = os.open(os.path.dirname(os.path.abspath(path)), os.O_RDONLY | os.O_DIRECTORY)
         try:
-            os.fsync(parent)
+            os.fsync(above)
         finally:
-            os.close(parent)
-
-
-def is_there(path: str) -> bool:
-    """Whether there is a file. Raises OSError if a path can't be followed."""
-    try:
-        os.stat(path)
-    except FileNotFoundError:
-        return False
-    return True
+            os.close(above)
+    folder = Folder(path, lock_folder(path))
+    found = os.fstat(folder.number)
+    if found.st_uid == os.geteuid() and not found.st_mode & (stat.S_IWGRP | stat.S_IWOTH):
+        return folder
+    os.close(folder.number)
+    if found.st_uid != os.geteuid():
+        raise SaveError(f"{path} belongs to another user: name a folder of your own")
+    raise SaveError(f"{path} can be written to by others: chmod go-w {path}")

@@ -10,7 +10,7 @@ The server starts `b3store serve --at DOOR --sessions N` with a door in a privat
 which speaks the lines of `b3store serve`, through the session's own pipes if the client asks for them (relay.py). Up to N connections are served at a time;
 the others wait for their turn, in the order in which they came. The store lives in memory; with `--save FOLDER` the server keeps a log of it (redo_log.py).
 """
-from .programs import ENDING, end_at_once, exit_at_ending, handle_ending, signals_held
+from .programs import ENDING, OTHERS, end_at_once, exit_at_ending, handle_ending, signals_held
 
 if __name__ == "__main__":
     end_at_once()
@@ -22,6 +22,7 @@ import contextlib
 import math
 import os
 import resource
+import select
 import selectors
 import signal
 import socket
@@ -35,7 +36,6 @@ from .listening import Listener, ListenError, inherited, listen_at, more_time, n
 from .redo_log import RedoLog, SaveError, reason_of
 from .relay import Connection
 from .server_store import SECONDS_OF_SILENCE, StoreProcess, remove_left_folders, status_text
-from .sessions import can_write
 from .values import MAX_SESSIONS, StoreError, half_of_memory
 
 NAME = "b3store.server"
@@ -51,8 +51,7 @@ SECONDS_FOR_LAST = 30.0
 """How long they may then take for the last command, once their answers are not read any more."""
 SECONDS_FOR_SAVES = 600.0
 """For how long a save that fails is tried again."""
-SECONDS_BETWEEN_SAVES = 60.0
-"""How long clients are served before it is tried again."""
+SECONDS_BETWEEN_SAVES = 1.0
 SECONDS_FOR_LINE = 0.2
 """How long a standard stream may take to have room for a line, which is dropped then."""
 SECONDS_BETWEEN_LOOKS = 0.02
@@ -83,7 +82,7 @@ def write_line(stream: Optional[TextIO], message: str) -> None:
     """Writes a line to a standard stream, if it is open and has room soon: one that nobody reads holds nothing up."""
     # what one thread found room for, no other one takes
     with WRITING, contextlib.suppress(OSError):
-        if stream is not None and can_write(stream.fileno(), SECONDS_FOR_LINE):
+        if stream is not None and select.select([], [stream], [], SECONDS_FOR_LINE)[1]:
             os.write(stream.fileno(), f"{NAME}: {one_line(message)}\n".encode(errors="surrogateescape"))
 
 
@@ -187,9 +186,9 @@ class Server:
         self._store, self._listeners, self._options, self._log = store, listeners, options, log
         self._connections, self._more_time = Connections(store, options), more_time()
         self._deadline: Optional[float] = None
-        """While no clients are let in: when those that are served are ended at the latest."""
-        self._next_save, self._last_save = math.inf, math.inf
-        """After a save that failed: when the server tries to end again, and since when the save that it tries is the last one."""
+        """Once the server has begun to end: when the clients that are served are ended at the latest."""
+        self._next_save, self._last_save, self._fault = -math.inf, math.inf, ""
+        """When the store is saved at the earliest, since when the save that is tried is the last one, and why the one before failed."""
         self._selector = selectors.DefaultSelector()
         self._signals, written = socket.socketpair()
         for end in (self._signals, written):
@@ -218,18 +217,15 @@ class Server:
             if status is not None:
                 report(f"the store ended with {status_text(status)}; {self._lost()}")
                 return 3
-            if self._deadline is None and time.monotonic() >= self._next_save:
-                self._stop()
-            if self._deadline is not None and (time.monotonic() >= self._deadline or not self._connections.count()):
-                status = self._end()
-                if status is not None:
-                    return status
-            is_ending = self._deadline is not None or self._next_save < math.inf
-            if is_ending:
+            now, pause = time.monotonic(), SECONDS_AT_REST
+            if self._deadline is not None:
+                pause = SECONDS_BETWEEN_LOOKS
                 self._more_time()
-            now = time.monotonic()
-            until_busy = self._connections.close_waiting(now) - now
-            for key, _ in self._selector.select(SECONDS_BETWEEN_LOOKS if is_ending else min(SECONDS_AT_REST, until_busy)):
+                if (now >= self._deadline or not self._connections.count()) and now >= self._next_save:
+                    status = self._end()
+                    if status is not None:
+                        return status
+            for key, _ in self._selector.select(min(pause, self._connections.close_waiting(now) - now)):
                 if key.data is None:
                     self._read_signals()
                 else:
@@ -240,64 +236,58 @@ class Server:
         return "everything in it is lost" + (", except for what its log has" if self._log else "")
 
     def _end(self) -> Optional[int]:
-        """Ends the store, and returns the exit status; None if clients are served again, since the store can't be saved."""
+        """Ends the clients and the store, and returns the exit status; None if the store can't be saved yet."""
         cut = self._connections.count()
-        if cut:
+        if cut and not self._fault:
             report(f"the server ends while {cut} {'connection is' if cut == 1 else 'connections are'} open")
-        is_saved = self._log is None or self._save(self._log)
-        if not is_saved and self._keeps_running():
+        fault = "" if self._log is None else self._save(self._log)
+        if fault and self._tries_again(fault):
             return None
         status = self._store.end()
         if self._store.timed.are_cut:
             report(f"the store did not answer for {SECONDS_OF_SILENCE:.0f} s, and was killed; {self._lost()}")
         elif status:
             report(f"the store ended with {status_text(status)}")
-        return 4 if not is_saved else 3 if status else 0
+        return 4 if fault else 3 if status else 0
 
-    def _keeps_running(self) -> bool:
-        """After a save that failed, serves clients again, unless it was the last one. Returns whether it does."""
-        now = time.monotonic()
-        if now >= self._last_save or not self._store.is_usable():
-            return False
-        report(f"the server keeps running, and tries again in {SECONDS_BETWEEN_SAVES:.0f} s; after a further signal it ends even if the save fails")
-        self._last_save, self._next_save = min(self._last_save, now + SECONDS_FOR_SAVES), now + SECONDS_BETWEEN_SAVES
-        self._store.timed.ends_since = math.inf
-        self._deadline = None
-        self._let_in()
-        return True
-
-    def _save(self, log: RedoLog) -> bool:
-        """Ends the clients, tries to save the store, and returns whether it is saved. A signal doesn't interrupt it."""
+    def _save(self, log: RedoLog) -> str:
+        """Ends the clients, and saves the store. Returns why that failed, if it did. A signal doesn't interrupt it."""
         self._connections.end_all(self._more_time)
         self._store.timed.ends_since = time.monotonic()
         try:
-            text = log.finish(self._store, self._more_time)
-        except SaveError as error:
-            report(str(error))
-            return False
+            write_line(sys.stdout, f"saved {log.finish(self._store, self._more_time)}")
+            return ""
         except Exception as error:  # whatever it is, the store is kept
-            report(f"the store can't be saved: {reason_of(error)}")
-            return False
-        write_line(sys.stdout, f"saved {text}")
-        return True
+            return str(error) if isinstance(error, SaveError) else f"the store can't be saved: {reason_of(error)}"
+
+    def _tries_again(self, fault: str) -> bool:
+        """Whether a save that failed is tried again. Reports why it failed, once, and again at the last time."""
+        now = time.monotonic()
+        self._last_save, self._next_save = min(self._last_save, now + SECONDS_FOR_SAVES), now + SECONDS_BETWEEN_SAVES
+        does = now < self._last_save and self._store.is_usable()
+        if fault != self._fault or not does:
+            report(fault + (f"; it is tried again, for {SECONDS_FOR_SAVES:.0f} s or until a further signal" if does else ""))
+        self._fault = fault
+        return does
 
     def _read_signals(self) -> None:
         asked = sum(number in ENDING for number in self._signals.recv(64))
-        if asked and self._next_save < math.inf:
-            self._last_save = time.monotonic()
         if asked and self._deadline is None:
             self._stop()
             asked -= 1
         if asked:
-            self._deadline = time.monotonic()
+            now = time.monotonic()
+            self._deadline = now
+            if self._fault:
+                self._next_save = self._last_save = now
 
     def _let_in(self) -> None:
-        """Accepts connections."""
+        """Lets connections in."""
         for listener in self._listeners:
             self._selector.register(listener.socket, selectors.EVENT_READ, listener)
 
     def _stop(self) -> None:
-        """Stops accepting connections. If a save fails, those that come now are accepted then."""
+        """Stops accepting connections."""
         notify("STOPPING=1")
         self._deadline = time.monotonic() + self._options.grace
         for listener in self._listeners:
@@ -370,6 +360,8 @@ def raise_file_limit(sessions: int) -> None:
 def serve(words: argparse.Namespace) -> int:
     """Starts the store, and serves it until the end."""
     exit_at_ending()
+    for number in OTHERS:
+        signal.signal(number, signal.SIG_IGN)
     if words.socket and words.save and os.path.realpath(os.path.dirname(words.socket) or ".") == os.path.realpath(words.save):
         # the folder of a socket and that of a save are locked
         raise ListenError(f"{words.socket} can't be in the folder of --save")
@@ -404,6 +396,8 @@ def main() -> int:
     except (StoreError, OSError) as error:
         report(str(error))
         return 1
+    except SystemExit:  # a signal ends it
+        return 0
     finally:
         # one that comes while the interpreter ends doesn't change the status
         handle_ending(signal.SIG_IGN)

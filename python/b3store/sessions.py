@@ -5,8 +5,6 @@ import itertools
 import os
 import queue
 import select
-import socket
-import stat
 import sys
 import threading
 import time
@@ -24,12 +22,6 @@ MAX_LINE_LEN = 1 << 12
 MAX_AHEAD = 8
 """How many parts are sent before the first one's answer is read. All their answers fit any pipe, so neither side waits for the other."""
 
-MAX_AHEAD_LINES = 72
-"""How many objects are forgotten before the first one's answer is read. All their answers fit any pipe, too."""
-
-LEAST_ROOM = select.PIPE_BUF
-"""How many bytes a descriptor takes without waiting once it can be written to."""
-
 SET_PIPE_SIZE = 1031
 """The number of F_SETPIPE_SZ, which `fcntl` has from Python 3.10 on."""
 
@@ -43,59 +35,6 @@ def set_pipe_size(pipe: Any, size: int) -> None:
     """Sets the capacity of a pipe, if the system allows it."""
     with contextlib.suppress(OSError):
         fcntl.fcntl(pipe, SET_PIPE_SIZE, size)
-
-
-def can_write(target: int, seconds: Optional[float]) -> bool:
-    """Whether a descriptor has room, or a fault, within some time."""
-    poll = select.poll()
-    poll.register(target, select.POLLOUT)
-    return bool(poll.poll(None if seconds is None else 1000 * seconds))
-
-
-def write_all(target: int, content: bytes, seconds: Optional[float], write: Callable[[int, memoryview], int] = os.write) -> None:
-    """Writes all bytes to a descriptor that doesn't block, or by a function that doesn't. Raises TimeoutError if it has no room for some time."""
-    view = memoryview(content)
-    while view.nbytes:
-        try:
-            view = view[write(target, view) :]
-        except BlockingIOError:
-            if not can_write(target, seconds):
-                raise TimeoutError("the descriptor takes no bytes") from None
-
-
-def write_slowly(target: int, content: bytes, seconds: Optional[float]) -> None:
-    """The same for a descriptor that may block."""
-    copy = None
-    # while there is a default timeout, a new socket object would change the mode of its socket
-    if stat.S_ISSOCK(os.fstat(target).st_mode) and socket.getdefaulttimeout() is None:
-        # there may be too many open files
-        with contextlib.suppress(OSError):
-            copy = os.dup(target)
-    if copy is None:
-        return write_all(target, content, seconds, write_if_room)
-    with socket.socket(fileno=copy) as sending:
-        write_all(target, content, seconds, lambda _, view: sending.send(view, socket.MSG_DONTWAIT))
-
-
-def write_if_room(target: int, view: memoryview) -> int:
-    """Writes what surely doesn't block, and returns how much."""
-    if not can_write(target, 0):
-        raise BlockingIOError
-    return os.write(target, view[:LEAST_ROOM])
-
-
-def not_blocking(target: int, ending: contextlib.ExitStack) -> Optional[int]:
-    """A descriptor for what a descriptor is open for, which doesn't block: itself, or for a pipe or a terminal another one, which is closed at the end. None
-    if there is none, as for a socket in blocking mode. The mode of the descriptor isn't changed: processes that have inherited it have the same mode."""
-    flags, mode = fcntl.fcntl(target, fcntl.F_GETFL), os.fstat(target).st_mode
-    if flags & os.O_NONBLOCK or stat.S_ISREG(mode) or flags & os.O_ACCMODE == os.O_RDONLY:
-        return target
-    with contextlib.suppress(OSError):
-        if stat.S_ISFIFO(mode) or os.isatty(target):
-            flags = os.O_WRONLY | os.O_NONBLOCK | os.O_NOCTTY
-            # a file object, unlike a number, is closed whenever an interrupt comes
-            return ending.enter_context(open(f"/proc/self/fd/{target}", "wb", 0, opener=lambda path, _: os.open(path, flags))).fileno()
-    return None
 
 
 INTERRUPTED = Ended("a command was interrupted")

@@ -3,6 +3,7 @@ import io
 import itertools
 import operator
 import os
+import stat
 import sys
 from types import TracebackType
 from typing import Any, BinaryIO, Callable, Iterator, List, Optional, Type, Union
@@ -225,7 +226,7 @@ class Transfers(Commands):
     ) -> Filed:
         """Files content of any length: bytes, or a file object that is open for reading bytes, from its position on.
 
-        A file need not be seekable. Without a `length` it is read to its end, and a seekable one of more than 4 MiB to the end that it had when so much
+        A file need not be seekable. Without a `length` it is read to its end, and a regular one of more than 4 MiB to the end that it had when so much
         was read; with one, `length` bytes are read, and ValueError is raised if it ends earlier. If the length isn't known, `max_len` bytes are reserved:
         by default as many as the file seems to have, or all that the tenant has left, up to 1 TiB. With an `address`, the content is filed only if that
         is its address. `progress` is called with the number of bytes that were sent so far, unless there are at most PART_LEN, which are filed in one turn. If
@@ -369,31 +370,8 @@ def parts_of(file: Any, rooms: List[memoryview], first: List[memoryview], limit:
 
 
 def length_of(file: Any, count: int) -> Optional[int]:
-    """The number of a file's bytes, of which `count` were read, if the file is seekable and has more than these. Raises what the file does if it can't go
-    back from its end: its bytes would be lost."""
-    if is_stream(file):
+    """How many bytes a regular file has, from where its first `count` bytes were read on. None for any other file, such as one that decompresses another."""
+    if not isinstance(getattr(file, "raw", file), io.FileIO):
         return None
-    try:
-        position = file.tell()
-        end = file.seek(0, io.SEEK_END)
-    except (AttributeError, OSError, TypeError, ValueError):
-        return None
-    file.seek(position)
-    try:
-        length = int(end) - int(position) + count
-    except (TypeError, ValueError):
-        return None
-    return length if length > count else None
-
-
-def is_stream(file: Any) -> bool:
-    """Whether a file has a descriptor that can't seek. One of gzip over a pipe goes to its end, and never back."""
-    try:
-        number = operator.index(file.fileno())
-    except (AttributeError, OSError, TypeError, ValueError):
-        return False
-    try:
-        os.lseek(number, 0, os.SEEK_CUR)
-        return False
-    except OSError:
-        return True
+    status = os.fstat(file.fileno())
+    return max(0, status.st_size - file.tell()) + count if stat.S_ISREG(status.st_mode) else None

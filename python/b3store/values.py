@@ -1,5 +1,4 @@
 """The values of a store's commands: constants, errors, what commands return, and the checks of their arguments."""
-import numbers
 import operator
 import os
 import re
@@ -22,8 +21,6 @@ MAX_DIGITS = 20
 """The maximum number of digits of a number in an answer."""
 MAX_SESSIONS = 64
 """The maximum number of a store's sessions."""
-MAX_SECONDS = 1_000_000
-"""The longest time that a call may be told to wait, in seconds: eleven days."""
 PART_LEN = 1 << 20
 """The length of the parts that an upload is split into."""
 RANGE_LEN = 1 << 18
@@ -184,17 +181,6 @@ def check_number(name: str, value: Any, min_value: int = 0, max_value: int = MAX
     if not min_value <= number <= max_value:
         raise ValueError(f"{name} must be from {min_value} to {max_value}, not {shortened(number)}")
     return number
-
-
-def check_seconds(name: str, value: Any) -> Optional[float]:
-    """Returns an argument that must be a time in seconds, or None. Raises TypeError or ValueError."""
-    if value is None:
-        return None
-    if not isinstance(value, numbers.Real):
-        raise TypeError(f"{name} must be a number, not {type(value).__name__}")
-    if not 0 <= value <= MAX_SECONDS:
-        raise ValueError(f"{name} must be from 0 to {MAX_SECONDS}")
-    return float(value)
 
 
 def shortened(value: int) -> str:

@@ -2,7 +2,6 @@
 import hashes
 import hostile
 import installing
-import moves
 import programs
 import redoing
 import served
@@ -30,10 +29,8 @@ CASES = (
     ("uploads with blocks", transfers.uploads_with_blocks),
     ("an upload that is written to after a refusal", transfers.writes_after_a_refusal),
     ("uploads from slow files", transfers.slow_files),
-    ("contents that are filed together", transfers.files_together),
     ("objects as files", transfers.objects_as_files),
     ("objects read into buffers", transfers.reads_into_buffers),
-    *moves.CASES,
     ("the journal one by one", transfers.iterates),
     *redoing.CASES,
     ("a store for asyncio", transfers.by_asyncio),
@@ -62,9 +59,6 @@ CASES = (
     ("an interrupt while a program starts", programs.ends_while_it_starts),
     ("a signal while a program ends", programs.ends_while_it_ends),
     ("signals while a program ends at another", programs.ends_at_signals_while_it_ends),
-    ("progress of the command line", programs.shows_progress),
-    ("names in the progress of the command line", programs.shows_names_on_one_line),
-    ("progress on a terminal that goes away", programs.goes_on_without_a_terminal),
     ("the package installed", installing.installs),
     ("the names of the package", installing.names),
     ("the package without the library", installing.without_library),

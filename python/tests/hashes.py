@@ -5,14 +5,11 @@ import hashlib
 import io
 import os
 import random
-import signal
-import subprocess
 import sys
 import tempfile
 import timeit
-import unittest.mock
 
-from shared import ABC, EMPTY, SECONDS, TOP, Interrupted, differences, in_threads, interrupt, raised
+from shared import ABC, EMPTY, differences, in_threads, raised
 from judging import judged
 
 LENGTHS = (0, 1, 63, 64, 65, 1023, 1024, 1025, 4095, 4096, 4097, 10000, 1 << 20, (1 << 20) + 1, 3 << 20, (5 << 20) + 77)
@@ -29,7 +26,7 @@ def content_of(length):
 
 def equal_ways():
     """However bytes are given, their hash is the same."""
-    from b3store.hashing import blake3, digest_by_threads, file_digest
+    from b3store.hashing import blake3, file_digest
 
     found = differences((blake3(b"abc").hexdigest(), ABC), (blake3().hexdigest(), EMPTY), (blake3(key=KEY).hexdigest(), KEYED))
     with tempfile.TemporaryDirectory() as place:
@@ -42,16 +39,16 @@ def equal_ways():
                 hasher.update(content[start : start + 1 + length // 3])
             with open(path, "rb") as file, open(path, "rb", buffering=0) as raw, open(path, "rb") as later:
                 later.read(1)
-                files = [file_digest(file, 3), file_digest(raw, 1), file_digest(io.BytesIO(content)), file_digest(later)]
-            ways = [hasher.digest(), blake3(bytearray(content)).digest(), blake3(memoryview(content)).digest(), digest_by_threads(content, 3), digest_by_threads(bytearray(content))]
+                files = [file_digest(file), file_digest(raw), file_digest(io.BytesIO(content)), file_digest(later)]
+            ways = [hasher.digest(), blake3(bytearray(content)).digest(), blake3(memoryview(content)).digest()]
             wrong = [at for at, way in enumerate([*ways, *files[:3]]) if way != digest]
-            found += differences(((length, wrong), (length, [])), (files[3], blake3(content[1:]).digest()), (digest_by_threads(content, 2, KEY), blake3(content, key=KEY).digest()))
+            found += differences(((length, wrong), (length, [])), (files[3], blake3(content[1:]).digest()))
             long = blake3(content, context="context").digest(100)
             found += differences((blake3(content, context="context").digest(30, position=70), long[70:]), (hasher.digest(0), b""))
             with gzip.open(path, "wb", 0) as file:
                 file.write(content)
             with gzip.open(path) as file:
-                found += differences((file_digest(file, 3), digest))
+                found += differences((file_digest(file), digest))
     return found
 
 
@@ -73,7 +70,7 @@ def copies():
 
 
 def wrong_values():
-    from b3store.hashing import blake3, digest_by_threads, file_digest
+    from b3store.hashing import blake3, file_digest
 
     hasher = blake3(b"abc")
     calls = [(TypeError, lambda wrong=wrong: blake3(wrong)) for wrong in ("abc", 5, None, [1])]
@@ -84,7 +81,6 @@ def wrong_values():
     calls += [(ValueError, lambda: hasher.digest(1 << 63)), (ValueError, lambda: blake3(bytes(5000)).digest((1 << 64) - 1)), (TypeError, lambda: file_digest("name"))]
     calls += [(None, lambda: blake3().digest(position=type("Number", (), {"__index__": lambda _: 5})()))]
     calls += [(ValueError, lambda: hasher.digest(5, position=-1)), (ValueError, lambda: hasher.digest(5, position=1 << 64)), (ValueError, lambda: hasher.digest(2, position=(1 << 64) - 2))]
-    calls += [(ValueError, lambda: digest_by_threads(b"abc", 0)), (TypeError, lambda: digest_by_threads("abc")), (ValueError, lambda: file_digest(io.BytesIO(), 0))]
     return differences(*((raised(call), wanted) for wanted, call in calls), (hasher.hexdigest(), ABC))
 
 
@@ -102,38 +98,6 @@ def files_without_bytes():
         return found + differences((file_digest(file).hex(), ABC))
 
 
-def files_that_are_interrupted():
-    """After an interrupt the threads end: they don't read the rest of a file first."""
-    from b3store.hashing import SPAN_LEN, file_digest
-
-    spans, before = [], signal.signal(signal.SIGALRM, interrupt)
-
-    def read(_, rooms, at):
-        spans.append(at)
-        if at == 9 * SPAN_LEN:
-            os.kill(os.getpid(), signal.SIGALRM)
-        return len(rooms[0])
-
-    try:
-        with tempfile.TemporaryFile() as file, unittest.mock.patch("os.preadv", read):
-            file.truncate(10000 * SPAN_LEN)
-            return differences((raised(file_digest, file, 3), Interrupted), (len(spans) < 9000, True))
-    finally:
-        signal.signal(signal.SIGALRM, before)
-
-
-def positions_of_files():
-    """A large regular file keeps its position, where threads read it; another is at its end."""
-    from b3store.hashing import SPAN_LEN, file_digest
-
-    found = []
-    for length, threads, wanted in (SPAN_LEN, 3, SPAN_LEN), (SPAN_LEN + 1, 3, 0), (SPAN_LEN + 1, 1, SPAN_LEN + 1):
-        with tempfile.TemporaryFile() as file:
-            file.truncate(length)
-            found += differences((file_digest(file, threads), file_digest(io.BytesIO(bytes(length)))), (file.tell(), wanted))
-    return found
-
-
 def small_calls():
     """They take microseconds, and threads do not disturb each other."""
     from b3store.hashing import blake3
@@ -148,25 +112,9 @@ def small_calls():
     return differences((in_threads(work, 4), [True] * 4)) + ([] if ours < MAX_SMALL_CALL * others else [f"a small call takes {ours * 1e3:.1f} us, of hashlib {others * 1e3:.1f}"])
 
 
-def prints_hashes():
-    with tempfile.TemporaryDirectory() as place:
-        path, none = os.path.join(place, "a\nb"), os.path.join(place, "none")
-        with open(path, "wb") as file:
-            file.write(b"abc")
-        lines = "\\" + ABC + "  " + path.replace("\n", "\\n") + "\n"
-        found = []
-        for words, data, wanted in ([path], b"", (0, lines, "")), ([], b"abc", (0, ABC + "  -\n", "")), (["--threads", "3", none, "-"], b"", (1, EMPTY + "  -\n", f"b3store: {none}: no such file or directory\n")):
-            ran = subprocess.run([sys.executable, "-m", "b3store.hashing", *words], input=data, capture_output=True, timeout=SECONDS, env={**os.environ, "PYTHONPATH": os.path.join(TOP, "python")})
-            found += differences(((ran.returncode, ran.stdout.decode(), ran.stderr.decode()), wanted))
-        words = ["bash", "-c", '"$0" -m b3store.hashing <&-', sys.executable]
-        ran = subprocess.run(words, capture_output=True, timeout=SECONDS, env={**os.environ, "PYTHONPATH": os.path.join(TOP, "python")})
-        return found + differences((ran.returncode, 1), (ran.stdout, b""), (ran.stderr, b"b3store: -: standard input is closed\n"))
-
-
 CASES = (
     ("hashes of bytes given in many ways", equal_ways), ("copies of hashers", copies), ("wrong values for hashers", wrong_values), ("small calls of hashers", small_calls),
-    ("hashes of files without bytes", files_without_bytes), ("hashes of files that are interrupted", files_that_are_interrupted), ("positions of hashed files", positions_of_files),
-    ("the program b3store.hashing", prints_hashes),
+    ("hashes of files without bytes", files_without_bytes),
 )
 
 if __name__ == "__main__":

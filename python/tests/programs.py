@@ -1,17 +1,12 @@
 """The command line, `python -m b3store`."""
-import contextlib
 import os
-import pty
-import re
 import resource
-import select
 import signal
 import stat
 import subprocess
 import sys
 import tempfile
 import time
-import unittest.mock
 
 from bridge import Bridge
 from hostile import listen_to_signals
@@ -20,7 +15,6 @@ from served import server_of
 from transfers import PART_LEN, content_of
 import b3store
 from b3store import Client
-from b3store.__main__ import output_to
 from b3store.values import half_of_memory
 
 PACKAGE = os.path.join(TOP, "python")
@@ -52,18 +46,14 @@ def puts_and_gets():
         copy = os.path.join(place, "copy")
         found += differences((client("get", address, "-o", copy), (0, b"", "")), (open(copy, "rb").read() == content, True))
         found += differences((client("get", ABC, "--output", copy), (0, b"", "")), (open(copy, "rb").read(), b"abc"), (client("get", ABC, "-o", "/dev/null"), (0, b"", "")), (client("get", ABC, "-o", "-"), (0, b"abc", "")))
-        link = os.path.join(place, "link")
-        os.symlink("copy", link)
         os.chmod(copy, 0o640)
         # only root can give a file to others
         owner = (1234, 5678) if os.geteuid() == 0 else (os.geteuid(), os.getegid())
         os.chown(copy, *owner)
         found += differences((client("get", FOUR, "-o", copy), (0, b"", "")), (stat.S_IMODE(os.stat(copy).st_mode), 0o640))
         found += differences(((os.stat(copy).st_uid, os.stat(copy).st_gid), owner))
-        found += differences((client("get", ABC, "-o", link, "--follow"), (0, b"", "")), (os.readlink(link), "copy"), (open(copy, "rb").read(), b"abc"))
-        found += differences((client("get", FOUR, "-o", link), (0, b"", "")), (os.path.islink(link), False), (open(copy, "rb").read(), b"abc"))
-        found += differences((stat.S_IMODE(os.stat(link).st_mode), stat.S_IMODE(os.stat(odd).st_mode)), (os.stat(link).st_uid, os.geteuid()))
-        os.remove(link)
+        os.remove(copy)
+        found += differences((client("get", FOUR, "-o", copy), (0, b"", "")), (stat.S_IMODE(os.stat(copy).st_mode), stat.S_IMODE(os.stat(odd).st_mode)))
         nowhere = os.path.join(place, "none", "copy")
         found += differences((client("get", ABC, "-o", nowhere), (3, b"", f"b3store: {nowhere}: no such file or directory\n")))
         found += differences((client("get", ABC, "-o", ""), (3, b"", "b3store: '': no such file or directory\n")))
@@ -142,64 +132,23 @@ def names_of_all_bytes():
 
 
 def outputs_of_all_kinds():
-    """Standard output, descriptors, pipes and devices are written to as they are, also by the system's links to them. A link that others may have made is
-    replaced, whatever it leads to, unless links are followed. No part of a file is left."""
+    """A pipe is written to, and a link is refused: what it leads to stays as it is."""
     with tempfile.TemporaryDirectory() as place, Bridge() as server:
-        def get(to, *more, **options):
-            words = [sys.executable, "-m", "b3store", "--socket", server.path, "get", ABC, "-o", to, *more]
-            return subprocess.run(words, stderr=subprocess.PIPE, timeout=SECONDS, env={**os.environ, "PYTHONPATH": PACKAGE}, **options)
-
         run(["--socket", server.path, "put", "-"], b"abc")
-        ran, log, loop = get("/dev/stdout", stdout=subprocess.PIPE), os.path.join(place, "log"), os.path.join(place, "loop")
-        found = differences((ran.stdout, b"abc"), (ran.stderr, b""), (ran.returncode, 0))
-        with open(log, "ab") as file:
-            file.write(b"old ")
-            file.flush()
-            found += differences((get("/dev/stdout", stdout=file).returncode, 0), (open(log, "rb").read(), b"old abc"))
-            found += differences((get(f"/dev/fd/{file.fileno()}", pass_fds=[file.fileno()]).returncode, 0), (open(log, "rb").read(), b"old abcabc"))
-            os.symlink("/dev/stdout", loop)
-            found += differences((get(loop, "--follow", stdout=file).returncode, 0), (open(log, "rb").read(), b"old abcabcabc"), (os.path.islink(loop), True))
-            os.remove(loop)
-        reading, writing = os.pipe()
-        with os.fdopen(reading, "rb") as pipe:
-            ran = get(f"/dev/fd/{writing}", pass_fds=[writing])
-            os.close(writing)
-            found += differences((ran.stderr, b""), (ran.returncode, 0), (pipe.read(), b"abc"))
-        os.symlink("loop", loop)
-        ran = get(loop, "--follow")
-        found += differences((ran.stderr.decode(), f"b3store: {loop}: too many levels of symbolic links\n"), (ran.returncode, 3), (os.readlink(loop), "loop"))
-        found += replaces_links(get, place)
-        large, piped = content_of(PART_LEN), os.pipe()
-        os.set_blocking(piped[1], False)
-        address = run(["--socket", server.path, "put", "-"], large)[1][:64].decode()
-        words = [sys.executable, "-m", "b3store", "--socket", server.path, "get", address]
-        with subprocess.Popen(words, stdout=piped[1], env={**os.environ, "PYTHONPATH": PACKAGE}) as getting, os.fdopen(piped[0], "rb") as pipe:
-            os.close(piped[1])
-            found += differences((select.select([pipe], [], [], SECONDS)[0], [pipe]), (time.sleep(0.3), None), (pipe.read() == large, True), (getting.wait(SECONDS), 0))
-        with unittest.mock.patch("os.umask", side_effect=KeyboardInterrupt), contextlib.suppress(KeyboardInterrupt), output_to(os.path.join(place, "file")):
-            found.append("nothing is raised")
-        return found + differences((sorted(os.listdir(place)), ["log", "loop"]))
-
-
-def replaces_links(get, place):
-    """Those to a file, to a pipe that nobody reads, to a device, to a name of standard output, to nothing and to themselves; also in a folder of /dev."""
-    found = []
-    with tempfile.TemporaryDirectory() as other, tempfile.TemporaryDirectory(dir="/dev/shm" if os.path.isdir("/dev/shm") else None) as shared:
-        kept, pipe = os.path.join(other, "kept"), os.path.join(other, "pipe")
+        pipe, link, kept = (os.path.join(place, name) for name in ("pipe", "link", "kept"))
+        get, found = ["--socket", server.path, "get", ABC, "-o"], []
+        os.mkfifo(pipe)
+        reader = subprocess.Popen(["cat", pipe], stdout=subprocess.PIPE)
+        found += differences((run([*get, pipe]), (0, b"", "")), (reader.communicate(timeout=SECONDS)[0], b"abc"), (run([*get, os.devnull]), (0, b"", "")))
         with open(kept, "wb") as file:
             file.write(b"kept")
-        os.mkfifo(pipe)
-        os.chmod(shared, 0o777)
-        for folder in place, shared:
-            link = os.path.join(folder, "loop")
-            for target in kept, pipe, os.devnull, "/dev/stdout", os.path.join(other, "none"), "loop":
-                with contextlib.suppress(FileNotFoundError):
-                    os.remove(link)
-                os.symlink(target, link)
-                ran = get(link, stdout=subprocess.PIPE)
-                found += differences(((target, ran.returncode, ran.stdout, ran.stderr), (target, 0, b"", b"")), (os.path.islink(link), False))
-                found += differences((os.path.isfile(link) and open(link, "rb").read(), b"abc"))
-        return found + differences((sorted(os.listdir(other)), ["kept", "pipe"]), (open(kept, "rb").read(), b"kept"))
+        for target in kept, pipe, os.devnull, "/dev/stdout", "none", "link":
+            os.symlink(target, link)
+            found += differences((run([*get, link]), (3, b"", f"b3store: {link}: it is a link: name the file that it leads to, or - for standard output\n")))
+            found += differences((os.readlink(link), target))
+            os.remove(link)
+        found += differences((open(kept, "rb").read(), b"kept"), (run([*get, "/dev/full"])[::2], (3, "b3store: /dev/full: no space left on device\n")))
+        return found + differences((sorted(os.listdir(place)), ["kept", "pipe"]), (run([*get, place])[::2], (3, f"b3store: {place}: is a directory\n")))
 
 
 def says_what_is_wrong():
@@ -268,9 +217,9 @@ def ends_on_an_interrupt():
 
 def ends_while_it_starts():
     """Ctrl-C while modules are imported ends each program without a traceback. A module that each of them imports sends it."""
-    programs = [["-m", "b3store"], ["-m", "b3store.server"], ["-m", "b3store.hashing"]]
+    programs = [["-m", "b3store"], ["-m", "b3store.server"], ["-m", "b3store.follow"]]
     programs += [["-c", f"from b3store.programs import {name}; {name}()"] for name in ("client", "server")]
-    programs += [[os.path.join(TOP, "examples", name + ".py")] for name in ("backup", "cache_server", "cluster")]
+    programs += [[os.path.join(TOP, "examples", name + ".py")] for name in ("backup", "cache")]
     found = []
     for module in ("argparse", *(["typing"] if starts_without("typing") else [])):
         with tempfile.TemporaryDirectory() as place:
@@ -306,7 +255,7 @@ def ends_at_signals_while_it_ends():
         found += differences((run_text(text), (128 + number, b"", b"")))
         for second in numbers:
             text = f"{start}drop = console.drop_output; console.drop_output = lambda: (end({int(second)}), drop()); sys.exit(console.finish(lambda: end({int(number)})))"
-            found += differences((run_text(text), (-second, b"", b"")))
+            found += differences((run_text(text), (128 + number, b"", b"")))
     return found
 
 
@@ -314,46 +263,3 @@ def run_text(text):
     """The status, standard output and standard error of a program of Python, which no signal finds ignored."""
     ran = subprocess.run([sys.executable, "-c", text], capture_output=True, timeout=SECONDS, env={**os.environ, "PYTHONPATH": PACKAGE}, preexec_fn=listen_to_signals)
     return ran.returncode, ran.stdout, ran.stderr
-
-
-def shows_progress():
-    """On a terminal, once a second has gone by, and not elsewhere."""
-    with Bridge() as server:
-        main_end, terminal = pty.openpty()
-        words = [sys.executable, "-m", "b3store", "--socket", server.path, "put", "-"]
-        environment = {**os.environ, "PYTHONPATH": PACKAGE}
-        with subprocess.Popen(words, stdin=subprocess.PIPE, stdout=subprocess.PIPE, stderr=terminal, env=environment) as put:
-            shown, end = b"", time.monotonic() + SECONDS / 2
-            while b" MiB in " not in shown and time.monotonic() < end:
-                put.stdin.write(bytes(5 * PART_LEN))
-                put.stdin.flush()
-                if select.select([main_end], [], [], 0.3)[0]:
-                    shown += os.read(main_end, 10000)
-            put.stdin.close()
-            line = put.stdout.read()
-        os.close(terminal)
-        shown += os.read(main_end, 10000)
-        os.close(main_end)
-        is_shown = bool(re.search(rb"b3store: -: [0-9]+ MiB in ", shown))
-        return differences((put.returncode, 0), (line[64:], b"  -\n"), (is_shown, True), (shown.endswith(b"\r\x1b[K"), True))
-
-
-def shows_names_on_one_line():
-    """What a terminal would take as a command, or as another line, is escaped in the names of progress."""
-    text = "from b3store import console; console.SECONDS_TO_PROGRESS = console.SECONDS_BETWEEN = 0; console.Progress('a\\n\\x1b[2Jb', None)(1)"
-    main_end, terminal = pty.openpty()
-    with open(main_end, "rb", buffering=0) as shown, open(terminal, "wb", buffering=0) as stderr:
-        ran = subprocess.run([sys.executable, "-c", text], stderr=stderr, timeout=SECONDS, env={**os.environ, "PYTHONPATH": PACKAGE})
-        return differences((ran.returncode, 0), (shown.read(1000).startswith(b"\r\x1b[Kb3store: a\\n\\x1b[2Jb: 0 MiB in "), True))
-
-
-def goes_on_without_a_terminal():
-    """What is stored isn't given up because its progress can't be shown any more."""
-    text = "from b3store import console; console.SECONDS_TO_PROGRESS = console.SECONDS_BETWEEN = 0; progress = console.Progress('-', None)"
-    words = [sys.executable, "-c", text + "; print(flush=True); input(); progress(1); progress.close(); print('done')"]
-    main_end, terminal = pty.openpty()
-    with subprocess.Popen(words, stdin=subprocess.PIPE, stdout=subprocess.PIPE, stderr=terminal, env={**os.environ, "PYTHONPATH": PACKAGE}) as put:
-        os.close(terminal)
-        found = differences((put.stdout.readline(), b"\n"))
-        os.close(main_end)
-        return found + differences((put.communicate(b"\n", SECONDS)[0], b"done\n"), (put.returncode, 0))

@@ -286,11 +286,11 @@ def commands_that_are_interrupted():
 
 
 def interrupts_at_any_moment():
-    """No interrupt of a command, or of `alive`, keeps a session, and none of `fetch_to` changes the mode of its descriptor. Older versions of Python look for
-    signals before nearly each step, also of a finally: there it is only rarer."""
+    """No interrupt of a command, or of `alive`, keeps a session. Older versions of Python look for signals before nearly each step, also of a finally: there it
+    is only rarer."""
     if sys.version_info < (3, 11):
         return []
-    found, sink = [], os.open(os.devnull, os.O_WRONLY)
+    found = []
     with alarms(), Bridge() as server:
         for number in range(100):
             with Client(server.path) as store:
@@ -302,11 +302,6 @@ def interrupts_at_any_moment():
                 kept = 3 - store._free.qsize()
                 store._give_back(store._all[:kept])
                 found += differences((kept, 0))
-            store.fetch = lambda *_: bytes(PART_LEN)
-            for number in range(1000):
-                interrupted_calls(lambda: store.fetch_to(0, ABC, sink), 0.0001 + number / 10000000)
-                found += differences((os.get_blocking(sink), True))
-    os.close(sink)
     return found[:1]
 
 
@@ -316,15 +311,13 @@ def give_up(*_):
 
 def commands_that_take_too_long():
     """A handler may raise an OSError, as TimeoutError: it reaches the caller, and isn't taken for the end of the server."""
-    found, sink = [], os.open(os.devnull, os.O_WRONLY)
+    found = []
     cases = (
         (None, lambda store: store.stat()), (b"bytes 5", lambda store: store.stat()), (None, lambda store: store.put(0, 0, bytes(1 << 24))),
         (b"bytes 5\nabc", lambda store: store.fetch(0, ABC)), (b"bytes 5\nabc", lambda store: store.fetch_into(0, ABC, bytearray(5))),
-        (b"bytes 5", lambda store: store.fetch_to(0, ABC, sink)), (b"bytes 5\nabc", lambda store: store.fetch_to(0, ABC, sink)),
     )
     for answer, call in cases:
         with alarms(give_up), server_of(answer, None) as path, Client(path) as store:
             signal.setitimer(signal.ITIMER_REAL, 0.3)
             found += differences((raised(call, store), TimeoutError), (ended(store.stat), "a command was interrupted by TimeoutError"))
-    os.close(sink)
     return found

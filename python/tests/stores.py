@@ -87,12 +87,11 @@ def wrong_arguments(store):
         found += differences(*((raised(call, number), ValueError) for number in (-1, 1 << 64, 10 ** 5000)))
     filed = store.file(tenant, b"abc")
     wrong = (filed.address + "\nforget 0 " + filed.address, "", ABC[:-1], ABC + "0", "g" * 64, ABC + "\n", "\u0660" * 64, " " + ABC[1:])
-    calls = lambda tenant, address: store.file(tenant, b"abc", address), lambda tenant, address: store.fetch_to(tenant, address, 1, 0, 0)
+    calls = lambda tenant, address: store.file(tenant, b"abc", address), lambda tenant, address: store.open(tenant, address)
     for call in (store.has, store.fetch, store.forget, *calls):
         found += differences(*((raised(call, tenant, address), ValueError) for address in wrong))
         found += differences(*((raised(call, tenant, address), TypeError) for address in (ABC.encode(), [], 5)))
     found += differences((raised(store.ranges, tenant, ABC, 0), ValueError), (raised(store.file, tenant, "abc"), TypeError))
-    found += differences(*((raised(call, "0", []), TypeError) for call in (store.file_all, store.forget_all)))
     found += differences((store.has(tenant, Text(ABC)), 3), (store.file(tenant, array.array("I")).length, 0), (store.forget(tenant, EMPTY), None))
     found += differences((raised(store.entries, 0, -1), ValueError), (raised(store.entries, 0, "1\nabort 0"), TypeError), (raised(Store, "b3store"), TypeError))
     return found + differences(

@@ -71,15 +71,16 @@ def a_standby(program: str) -> List[str]:
         with Running(program, "--save", folder) as second, Following(first.path, second.path) as following, PackageClient(first.path) as filling:
             for limit in (1 << 30, 5, 1 << 20):
                 filling.tenant(limit)
-            addresses = [filed.address for filed in filling.file_all(0, [b"%d" % number for number in range(OBJECTS // 2)])]
+            addresses = [filling.file(0, b"%d" % number).address for number in range(OBJECTS // 2)]
             filling.upload(bytes(LARGE), 0)
             second.signal(signal.SIGKILL)
             second.status()
-            filling.forget_all(0, addresses[::7])
+            for address in addresses[::7]:
+                filling.forget(0, address)
             filling.limit(1, 6)
             with _again(program, second.path, "--save", folder), first.client() as client, Client(second.path) as copied:
-                filling.file_all(0, [b"%d" % number for number in range(OBJECTS // 2, OBJECTS)])
-                filling.file_all(2, [bytes(number) for number in range(100)])
+                for number in range(OBJECTS // 2, OBJECTS):
+                    filling.file(0 if number % 50 else 2, b"%d" % number)
                 found = differences((_same(client, copied), True))
                 state = state_of(client)
                 first.signal(signal.SIGKILL)

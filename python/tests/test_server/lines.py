@@ -162,7 +162,7 @@ def clients_that_are_killed(program: str) -> List[str]:
     with Running(program, "--sessions", "2", "--wait", "60") as server, server.client() as other:
         other.ask("tenant 1000000000")
         kept, found = other.number("begin 0 7"), []
-        halves = (b"", b"limit 0 5", b"putb 1 0 1024\nabc", b"begin 0 5\n" * 500, b"begin 0 5\nentries 0\n" * 1000, b"fetchb 0 " + b"0" * 64)
+        halves = (b"", b"limit 0 5", b"putb 1 0 1024\nabc", b"begin 0 5\n" * 500, b"begin 0 5\nentries 0\n" * 200, b"fetchb 0 " + b"0" * 64)
         for half in halves:
             reading, writing = os.pipe()
             client = multiprocessing.get_context("fork").Process(target=_begin_and_wait, args=(server.path, b"begin 0 5\n" + half, writing))

@@ -212,56 +212,6 @@ def saves_beside_idle_clients(program: str) -> List[str]:
             return found + differences((set(answered) <= set(store.list(tenant)), True), (store.stat().objects, len(answered) + 1))
 
 
-CHANGES = """
-import os, runpy
-from b3store.redo_log import RedoLog
-append = RedoLog._append
-def append_late(*given):
-    os.write(int(os.environ["TOLD"]), b"s")
-    os.read(int(os.environ["GOING"]), 1)
-    counts = append(*given)
-    os.write(int(os.environ["TOLD"]), b"e")
-    os.read(int(os.environ["GOING"]), 1)
-    return counts
-RedoLog._append, RedoLog.follow = append_late, lambda *_: None
-runpy.run_module('b3store.server', run_name='__main__', alter_sys=True)
-"""
-
-
-def saves_beside_clients_that_stay(program: str) -> List[str]:
-    """What a client changes while the server ends is appended again. One that doesn't stop is reported, and doesn't keep the server."""
-    found: List[str] = []
-    for changes in 1, 5:
-        (told, telling), (going, letting) = os.pipe(), os.pipe()
-        with tempfile.TemporaryDirectory() as place:
-            folder = os.path.join(place, "saved")
-            with _passing(program, folder, telling, going) as server, Piped(server.path) as client:
-                client.execute(b"tenant 5000")
-                server.signal()
-                os.close(telling)
-                saves = 0
-                while os.read(told, 1):
-                    os.write(letting, b"g")
-                    os.read(told, 1)
-                    if saves < changes:
-                        client.execute(b"limit 0 %d" % saves)
-                    saves += 1
-                    os.write(letting, b"g")
-                found += differences((saves, min(changes + 1, 3)), (server.status(), 0), (server.reported().count("\n"), 1 + (changes > 2)))
-            for end in told, going, letting:
-                os.close(end)
-            with Running(program, "--save", folder) as server, Client(server.path) as client:
-                found += differences((client.ask("tenants"), b"tenants 1\n0 0 0 %d\n" % (0 if changes == 1 else 1)))
-    return found
-
-
-def _passing(program: str, folder: str, telling: int, going: int) -> Running:
-    """A server that says, before and after it appends to the log, that it is there, and waits."""
-    for end in telling, going:
-        os.set_inheritable(end, True)
-    return Running(program, "--save", folder, "--grace", "0", python=["-c", CHANGES], closes=False, TOLD=str(telling), GOING=str(going))
-
-
 def ends_that_pipes_see(program: str) -> List[str]:
     """When the server or the store is killed, clients with pipes see the end, also one that waits for an answer."""
     found: List[str] = []
@@ -285,6 +235,5 @@ PIPES = (
     ("wrong lines beside pipes", wrong_lines_beside_pipes),
     ("clients of the package that are killed", package_clients_that_are_killed),
     ("a save beside idle clients", saves_beside_idle_clients),
-    ("a save beside clients that stay", saves_beside_clients_that_stay),
     ("ends that pipes see", ends_that_pipes_see),
 )

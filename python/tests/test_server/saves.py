@@ -18,7 +18,6 @@ from saving import LENGTHS, RUN_SERVER, append_to, content_of, files_in, fill_fo
 
 sys.path.insert(1, PACKAGE)
 from b3store.files import lock_folder
-from b3store.redo_log import make_folder
 
 LONG = (5 << 20) + 5
 """The length of an object that the store redoes alone."""
@@ -71,12 +70,12 @@ def fail_once(*given):
     if left[0] >= 0:
         raise KeyError("unforeseen")
     return finish(*given)
-server.RedoLog.finish, server.SECONDS_BETWEEN_SAVES = fail_once, 0.5
+server.RedoLog.finish = fail_once
 sys.exit(server.main())
 """
 """A server whose first save fails in an unforeseen way, and that soon tries again."""
-KEEPS_RUNNING = "b3store.server: the server keeps running, and "
-"""How the line begins that follows the failure of a save."""
+TRIES_AGAIN = "before: File too large; it is tried again, for "
+"""What the line has that reports a failed save."""
 HASTY = f"from b3store import server_store; server_store.SECONDS_OF_SILENCE = 1.0; {RUN_SERVER}"
 """A server that doesn't wait long for a store that doesn't answer."""
 
@@ -164,50 +163,24 @@ def one_server_alone(program: str) -> List[str]:
         return found + differences((state_at(program, folder), {}))
 
 
-def folders_that_are_moved(program: str) -> List[str]:
-    """A server whose folder is moved saves the store there, and leaves the folder of another server, which has the path now, as it is."""
+def folders_that_are_changed(program: str) -> List[str]:
+    """In a folder that is moved, the log is followed. If it is removed, that is reported, the clients are served, and nothing is saved anywhere else."""
     with save_folder() as folder:
         with Running(program, "--save", folder) as server, server.client() as client:
             client.ask("tenant 100000")
-            client.file(b"first")
-            state = state_of(client)
             os.rename(folder, f"{folder}-moved")
+            fill_folder(program, folder)
+            files = files_in(folder)
             client.file(b"moved")
             state = state_of(client)
-            client.ends()
-            with Running(program, "--save", folder) as other, other.client() as client:
-                client.ask("tenant 77")
-                client.file(b"second")
-                state_of_other = state_of(client)
-                found = differences((client.ends(), b""), (other.end(), CLEAN), (server.end(), CLEAN))
-            told = server.process.stdout.read() if server.process.stdout else b""
-            found += differences((told.decode(), f"b3store.server: saved 2 objects and 1 tenant in {folder}-moved\n"))
-        return found + differences((state_at(program, folder), state_of_other), (state_at(program, f"{folder}-moved"), state))
-
-
-def folders_that_are_removed(program: str) -> List[str]:
-    """A server whose folder is removed saves the store at its path again, also in an empty folder, but never over another save."""
-    found = []
-    for is_made in False, True:
-        with save_folder() as folder, Running(program, "--save", folder) as server, server.client() as client:
-            client.ask("tenant 100000")
-            client.file(b"kept")
-            state = state_of(client)
+            found = differences((client.ends(), b""), (server.end(), CLEAN), (files_in(folder), files), (state_at(program, f"{folder}-moved"), state))
+        with Running(program, "--save", folder) as server, server.client() as client:
             shutil.rmtree(folder)
-            if is_made:
-                os.mkdir(folder)
-            found += differences((client.ends(), b""), (server.end(), CLEAN), (state_at(program, folder), state))
-    with save_folder() as folder, Running(program, "--save", folder) as server, server.client() as client:
-        client.ask("tenant 100000")
-        client.ends()
-        fill_folder(program, f"{folder}-other")
-        os.rename(folder, f"{folder}-removed")
-        os.rename(f"{folder}-other", folder)
-        shutil.rmtree(f"{folder}-removed")
-        files, wanted = files_in(folder), f"{folder} holds 'log' and is not the folder that was locked"
-        found += differences((wait_until(lambda: wanted in server.reported()), True))
-        status, told, left = _end_unsaved(server)
-        return found + differences((status, 4), (told.count(wanted), 2), (left, []), (files_in(folder), files))
+            client.file(b"lost")
+            wanted = f"b3store.server: the log in {folder} can't be written: No such file or directory; it is tried again\n"
+            found += differences((wait_until(lambda: server.reported() == wanted), True), (client.ask("stat")[:10], b"objects 6 "), (client.ends(), b""))
+            status, told, left = _end_unsaved(server)
+            return found + differences((status, 4), (told.count("No such file or directory"), 3), (left, []), (os.path.exists(folder), False))
 
 
 def folders_that_are_none(program: str) -> List[str]:
@@ -222,8 +195,9 @@ def folders_that_are_none(program: str) -> List[str]:
             before = files_in(folder)
             wanted = f"b3store.server: {folder} holds '{min(before)}' and no saved store: name a folder that is empty or doesn't exist\n"
             found += differences((fails(*words, folder), (1, wanted)), (files_in(folder), before))
-        found += differences((fails(*words, f"{folder}/notes"), (1, f"b3store.server: cannot open the folder {folder}/notes: Not a directory\n")))
-        found += differences((fails(*words, f"{folder}/notes/a"), (1, f"b3store.server: cannot open the folder {folder}/notes/a: Not a directory\n")))
+        found += differences((fails(*words, f"{folder}/notes"), (1, f"b3store.server: cannot use the folder {folder}/notes: Not a directory\n")))
+        for path, reason in (f"{folder}/notes/a", "Not a directory"), (f"{folder}/none/a", "No such file or directory"), (folder + "/a" * 3000, "File name too long"):
+            found += differences((fails(*words, path), (1, f"b3store.server: cannot use the folder {path}: {reason}\n")))
         found += differences((fails(*words, "")[0], 2), (files_in(folder), before))
         with save_folder() as other:
             told = f"b3store.server: {other}/socket can't be in the folder of --save\n"
@@ -284,81 +258,46 @@ def links_in_a_folder(program: str) -> List[str]:
             return found + differences((file.read(), b"another"))
 
 
-def folders_that_are_made(program: str) -> List[str]:
-    """Each folder that gets another one is synced. A path of very many folders is refused with a message."""
-    sync, synced = os.fsync, []
-    with save_folder() as folder:
-        above, last = os.path.dirname(folder), f"{folder}/a//b/../c/"
-        os.fsync = lambda file: synced.append(os.fstat(file).st_ino)  # type: ignore[assignment,misc]
-        try:
-            make_folder(last)
-            make_folder(last)
-        finally:
-            os.fsync = sync
-        found = differences((sorted(os.listdir(f"{folder}/a")), ["b", "c"]), (os.stat(last).st_mode & 0o777, 0o700))
-        found += differences(({os.stat(name).st_ino for name in (above, folder, f"{folder}/a")} <= set(synced), True))
-        long = f"{above}/long" + "/a" * 3000
-        told = f"b3store.server: cannot open the folder {long}: File name too long\n"
-        found += differences((fails("--program", program, "--socket", f"{above}/s", "--save", long), (1, told)))
-        return found + differences((os.listdir(above), ["saved"]))
-
-
 def _end_unsaved(server: Running) -> Tuple[int, str, List[str]]:
     """What `end` returns of a server that can't save, which a second signal ends."""
     server.signal()
-    wait_until(lambda: KEEPS_RUNNING in server.reported())
-    status, told, left = server.end()
-    return status, told.split(KEEPS_RUNNING)[0], left
+    wait_until(lambda: "; it is tried again, for " in server.reported())
+    return server.end()
 
 
-def serves_while_saves_fail(program: str) -> List[str]:
-    """While a save fails, clients are served, also those that came since the signal, and what they file is in the save that succeeds."""
-    words = ("--grace", "60", "--sessions", "1")
-    with save_folder() as folder, Running(program, "--save", folder, *words, python=["-c", LIMITED], LIMIT="100000") as server, server.client() as client:
-        client.ask("tenant 5000000")
-        client.file(bytes(200_000))
-        with server.client() as waiting:
-            found = differences((wait_until(lambda: server.connections() == 2), True))
-            server.signal()
-            found += differences((waiting.remaining(), b"busy\n"))
-        with server.client() as late:
-            found += differences((client.ends(), b""), (late.ask("tenant 6000"), b"tenant 1\n"), (KEEPS_RUNNING in server.reported(), True))
-            late.file(b"while the save is tried again", 1)
-            resource.prlimit(server.process.pid, resource.RLIMIT_FSIZE, (resource.getrlimit(resource.RLIMIT_FSIZE)[1],) * 2)
-            state = state_of(late)
-            with server.client() as last:
-                found += differences((late.ends(), b""), (last.remaining() in (b"busy\n", b""), True), (server.status(), 0), (server.left(), []))
-        return found + differences((state_at(program, folder), state))
-
-
-def saves_that_never_succeed(program: str) -> List[str]:
-    """After some time, the save that is tried is the last one."""
-    impatient = LIMITED.replace("server.SECONDS_BETWEEN_SAVES", "server.SECONDS_FOR_SAVES = server.SECONDS_BETWEEN_SAVES")
-    with save_folder() as folder, Running(program, "--save", folder, python=["-c", impatient], LIMIT="100000") as server:
-        with server.client() as client:
-            client.ask("tenant 5000000")
-            client.file(bytes(200_000))
-        status, told, left = server.end()
-        return differences((status, 4), (told.count(KEEPS_RUNNING), 1), (told.count("before: File too large\n"), 2), (left, []))
-
-
-def saves_that_are_tried_again(program: str) -> List[str]:
-    """A save that fails is tried again, until the disk has room: nothing is lost."""
+def saves_that_fail(program: str) -> List[str]:
+    """A save that fails is reported once, and tried again, until the disk has room: nothing is lost. A client that connects meanwhile sees the end."""
     with save_folder() as folder, Running(program, "--save", folder, python=["-c", LIMITED], LIMIT="100000") as server, server.client() as client:
         client.ask("tenant 5000000")
         client.file(bytes(200_000))
         state = state_of(client)
         client.ends()
         server.signal()
-        found = differences((wait_until(lambda: server.reported().count("which has what was saved before: File too large\n") > 1), True))
-        resource.prlimit(server.process.pid, resource.RLIMIT_FSIZE, (resource.getrlimit(resource.RLIMIT_FSIZE)[1],) * 2)
-        found += differences((server.status(), 0), (server.left(), []), (state_at(program, folder), state))
+        found = differences((wait_until(lambda: TRIES_AGAIN in server.reported()), True))
+        with server.client() as late:
+            time.sleep(SHORTLY)
+            found += differences((server.reported().count(TRIES_AGAIN), 1), (server.process.poll(), None))
+            resource.prlimit(server.process.pid, resource.RLIMIT_FSIZE, (resource.getrlimit(resource.RLIMIT_FSIZE)[1],) * 2)
+            found += differences((server.status(), 0), (server.left(), []), (late.remaining(), b""), (state_at(program, folder), state))
     with save_folder() as folder, Running(program, "--save", folder, python=["-c", FAILING_ONCE]) as server, server.client() as client:
         client.ask("tenant 5000")
         state = state_of(client)
         client.ends()
         status, told, left = server.end()
         return found + differences((status, 0), ("the store can't be saved: 'unforeseen'" in told, True), (left, []), (state_at(program, folder), state))
+
+
+def saves_that_never_succeed(program: str) -> List[str]:
+    """After some time, or a further signal, the save that is tried is the last one, and the status says so."""
+    found = []
+    for script, signals in (LIMITED.replace("server.SECONDS_BETWEEN_SAVES", "server.SECONDS_FOR_SAVES = server.SECONDS_BETWEEN_SAVES"), 1), (LIMITED, 2):
+        with save_folder() as folder, Running(program, "--save", folder, python=["-c", script], LIMIT="100000") as server:
+            with server.client() as client:
+                client.ask("tenant 5000000")
+                client.file(bytes(200_000))
+            status, told, left = server.end() if signals == 1 else _end_unsaved(server)
+            found += differences((status, 4), (told.count(TRIES_AGAIN), 1), (left, []))
+    return found
 
 
 def stores_that_are_stopped(program: str) -> List[str]:
@@ -486,15 +425,12 @@ SAVES = (
     ("a save when clients don't end", saves_what_was_answered),
     ("a save when commands are left", saves_while_commands_are_left),
     ("two servers on one folder", one_server_alone),
-    ("a folder that is moved", folders_that_are_moved),
-    ("a folder that is removed", folders_that_are_removed),
+    ("folders that are moved or removed", folders_that_are_changed),
     ("folders that are none for a save", folders_that_are_none),
     ("folders of others for a save", folders_of_others),
     ("links in the folder of a save", links_in_a_folder),
-    ("folders that are made for a save", folders_that_are_made),
-    ("clients while a save is tried again", serves_while_saves_fail),
+    ("saves that fail", saves_that_fail),
     ("saves that never succeed", saves_that_never_succeed),
-    ("saves that are tried again", saves_that_are_tried_again),
     ("saves of stores that are stopped", stores_that_are_stopped),
     ("saves at other signals", other_signals),
     ("a save after memory ran out for uploads", no_memory_for_uploads),
