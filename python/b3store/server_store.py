@@ -3,7 +3,6 @@ import contextlib
 import errno
 import io
 import itertools
-import math
 import os
 import re
 import resource
@@ -14,7 +13,7 @@ import subprocess
 import tempfile
 import threading
 import time
-from typing import Any, Callable, List, NamedTuple, Optional, TypeVar
+from typing import Callable, List, NamedTuple, Optional, TypeVar
 
 from .files import FolderInUse, lock_folder
 from .sessions import Session, set_pipe_size
@@ -29,14 +28,8 @@ SECONDS_TO_END = 30.0
 """How long the program may take to exit once its standard input is closed."""
 SECONDS_TO_ANSWER = 1.0
 """How long the server waits at its end for the answers to its own commands."""
-SECONDS_OF_SILENCE = 60.0
-"""How long it then waits for each piece of an answer, before it kills the process."""
-SECONDS_BETWEEN_POLLS = 1.0
 SECONDS_TO_SEE = 0.5
 SECONDS_BETWEEN_LOOKS = 0.01
-FOLDER_PREFIX = "b3store-server-"
-SECONDS_TO_LOCK = 60.0
-"""How long a server may take, at most, to lock the folder that it has made."""
 MAX_PIPE_BYTES = 1 << 20
 MAX_PIPES_BYTES = 1 << 25
 """The maximum capacity of all pipes together. Linux grants a user 64 MiB by default."""
@@ -75,39 +68,6 @@ def status_text(status: int) -> str:
     return f"status {status}" + (f", killed by {names.get(status, f'signal {-status}')}" if status < 0 else "")
 
 
-def remove_left_folders() -> None:
-    """Removes the temporary folders that killed servers of this user have left: no process has locked them, some time after they were made."""
-    room = tempfile.gettempdir()
-    for path in [os.path.join(room, name) for name in os.listdir(room) if name.startswith(FOLDER_PREFIX)]:
-        with contextlib.suppress(OSError, FolderInUse), contextlib.ExitStack() as ending:
-            status = os.lstat(path)
-            if status.st_uid == os.getuid() and time.time() - status.st_mtime >= SECONDS_TO_LOCK:
-                ending.callback(os.close, lock_folder(path))
-                shutil.rmtree(path, ignore_errors=True)
-
-
-class TimedAnswers(io.FileIO):
-    """The process's answers to the server. Once the server ends, the process is killed if it is silent for too long: then they end."""
-
-    def __init__(self, process: "subprocess.Popen[bytes]") -> None:
-        assert process.stdout
-        super().__init__(process.stdout.fileno(), closefd=False)
-        self._process, self._poll = process, select.poll()
-        self._poll.register(self, select.POLLIN)
-        self.ends_since = math.inf
-        """When the server began to end, if it does."""
-        self.are_cut = False
-
-    def readinto(self, room: Any) -> Optional[int]:
-        """Reads what there is, once there is something."""
-        start = time.monotonic()
-        while not self._poll.poll(1000 * SECONDS_BETWEEN_POLLS):
-            if time.monotonic() >= max(start, self.ends_since) + SECONDS_OF_SILENCE:
-                self.are_cut = True
-                self._process.kill()
-        return super().readinto(room)
-
-
 class StoreProcess(Transfers):
     """A running `b3store serve --at DOOR --sessions N`. Its standard input and output are the server's own session, which the methods of a store use."""
 
@@ -118,7 +78,7 @@ class StoreProcess(Transfers):
         self._is_started = self._is_closing = self._is_behind = False
         self._due = 0
         """How many answers to `stat` follow what is unread: more than one if memory runs out again."""
-        self._folder, self._locked = tempfile.mkdtemp(prefix=FOLDER_PREFIX), -1
+        self._folder, self._locked = tempfile.mkdtemp(prefix="b3store-server-"), -1
         # what removes old files from /tmp leaves a locked folder alone
         with contextlib.suppress(OSError, FolderInUse):
             self._locked = lock_folder(self._folder)
@@ -137,9 +97,8 @@ class StoreProcess(Transfers):
             self._process = subprocess.Popen(words, stdin=subprocess.PIPE, stdout=subprocess.PIPE, start_new_session=True)
         except OSError as error:
             raise StoreError(f"cannot start {program}: {error.strerror}") from None
-        assert self._process.stdin
-        self._commands, self.timed = self._process.stdin, TimedAnswers(self._process)
-        self._answers = io.BufferedReader(self.timed)
+        assert self._process.stdin and self._process.stdout
+        self._commands, self._answers = self._process.stdin, self._process.stdout
         self._session = Session(self._commands, self._answers, has_ended)
         self._is_started = True
         try:

@@ -394,7 +394,8 @@ def _limits(server: Running, length: int) -> None:
 
 
 def full_disks(program: str) -> List[str]:
-    """A write that fails is reported once, and leaves what was written before; once there is room, the log gets the rest."""
+    """A write that fails is reported once, and leaves what was written before; once there is room, the log gets the rest. A folder of a file system that can't
+    be written to is refused."""
     with save_folder() as folder:
         found = _cannot_write(program, folder, lambda server: _limits(server, 200_000), lambda server: _limits(server, -1))
     with tempfile.TemporaryDirectory() as disk:
@@ -407,7 +408,13 @@ def full_disks(program: str) -> List[str]:
                 with open(other, "wb") as file:
                     file.write(bytes(700_000))
 
-            return found + _cannot_write(program, os.path.join(disk, "saved"), fill, lambda _: os.unlink(other))
+            folder = os.path.join(disk, "saved")
+            found += _cannot_write(program, folder, fill, lambda _: os.unlink(other))
+            files = files_in(folder)
+            subprocess.run(["mount", "-o", "remount,ro", disk], check=True)
+            told = f"b3store.server: cannot use the folder {folder}: Read-only file system\n"
+            found += differences((fails("--program", program, "--socket", "/tmp/none", "--save", folder), (1, told)))
+            return found + differences((files_in(folder), files))
         finally:
             subprocess.run(["umount", disk], check=True)
 

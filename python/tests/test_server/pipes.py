@@ -101,7 +101,7 @@ def pipes_that_are_kept(program: str) -> List[str]:
         with Client(server.path) as other:
             kept = Piped(server.path)
             found = differences((other.ask("tenant 5000"), b"tenant 0\n"), (kept.ask("begin 0 5"), b"upload 0\n"))
-            kept.socket.close()
+            Client.close(kept)
             found += differences((wait_until(lambda: server.reported() == KEEPS), True), (kept.execute(b"uploads 0")[:9], b"uploads 1"))
             with Client(server.path) as late:
                 found += differences((late.remaining(), b"busy\n"))
@@ -111,7 +111,7 @@ def pipes_that_are_kept(program: str) -> List[str]:
                 found += differences((late.ask("tenants"), b"tenants 1\n0 0 0 5000\n"), (late.ends(), b""))
             found += differences((other.ends(), b""))
         with contextlib.closing(Piped(server.path)) as again:
-            again.socket.close()
+            Client.close(again)
             server.signal()
             found += differences((server.status(), 0), (server.left(), []), (server.reported(), KEEPS + KEEPS + SHUT_DOWN))
             return found + differences((again.is_answered(), False))

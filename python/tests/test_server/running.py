@@ -30,7 +30,7 @@ class Client:
         self.socket = socket.socket(socket.AF_UNIX)
         self.socket.settimeout(SECONDS)
         self.socket.connect(path)
-        self.rest = b""
+        self._reading = self.socket.makefile("rb")
 
     def __enter__(self) -> "Client":
         return self
@@ -39,6 +39,7 @@ class Client:
         self.close()
 
     def close(self) -> None:
+        self._reading.close()
         self.socket.close()
 
     def send(self, *pieces: bytes) -> None:
@@ -53,37 +54,22 @@ class Client:
     def remaining(self) -> bytes:
         """What is left to read until the connection ends."""
         with contextlib.suppress(ConnectionResetError):
-            while True:
-                piece = self.socket.recv(1 << 20)
-                if not piece:
-                    break
-                self.rest += piece
-        rest, self.rest = self.rest, b""
-        return rest
-
-    def _more(self) -> None:
-        piece = self.socket.recv(1 << 20)
-        if not piece:
-            raise EOFError("the connection ended")
-        self.rest += piece
+            return self._reading.read()
+        return b""
 
     def line(self) -> bytes:
-        while b"\n" not in self.rest:
-            self._more()
-        line, _, self.rest = self.rest.partition(b"\n")
-        return line + b"\n"
+        """The next line."""
+        line = self._reading.readline()
+        if not line:
+            raise EOFError("the connection ended")
+        return line
 
     def answer(self) -> bytes:
         """The next answer, whole."""
         first = self.line()
         words = first.split()
         if words[0] == b"bytes":
-            pieces, missing = [self.rest[: int(words[1])]], int(words[1]) - len(self.rest)
-            self.rest = self.rest[int(words[1]) :]
-            while missing > 0:
-                pieces.append(self.socket.recv(min(missing, 1 << 20)))
-                missing -= len(pieces[-1])
-            return first + b"".join(pieces)
+            return first + self._reading.read(int(words[1]))
         if words[0] in ROWS and len(words) == 2:
             return first + b"".join(self.line() for _ in range(int(words[1])))
         return first

@@ -76,8 +76,6 @@ sys.exit(server.main())
 """A server whose first save fails in an unforeseen way, and that soon tries again."""
 TRIES_AGAIN = "before: File too large; it is tried again, for "
 """What the line has that reports a failed save."""
-HASTY = f"from b3store import server_store; server_store.SECONDS_OF_SILENCE = 1.0; {RUN_SERVER}"
-"""A server that doesn't wait long for a store that doesn't answer."""
 
 
 def _fill(client: Client) -> None:
@@ -300,18 +298,6 @@ def saves_that_never_succeed(program: str) -> List[str]:
     return found
 
 
-def stores_that_are_stopped(program: str) -> List[str]:
-    """A store that doesn't answer is killed, and what is lost is reported; the save before stays."""
-    with save_folder() as folder:
-        fill_folder(program, folder)
-        state = state_at(program, folder)
-        with Running(program, "--save", folder, "--grace", "0", python=["-c", HASTY]) as server:
-            os.kill(server.store(), signal.SIGSTOP)
-            status, told, left = server.end()
-        wanted = "b3store.server: the store did not answer for 1 s, and was killed; everything in it is lost, except for what its log has"
-        return differences((status, 4), (told.splitlines()[-1], wanted), (left, []), (state_at(program, folder), state))
-
-
 def other_signals(program: str) -> List[str]:
     """SIGQUIT ends a server, which saves. Signals that are for something else have no effect."""
     with save_folder() as folder, Running(program, "--save", folder) as server, server.client() as client:
@@ -431,7 +417,6 @@ SAVES = (
     ("links in the folder of a save", links_in_a_folder),
     ("saves that fail", saves_that_fail),
     ("saves that never succeed", saves_that_never_succeed),
-    ("saves of stores that are stopped", stores_that_are_stopped),
     ("saves at other signals", other_signals),
     ("a save after memory ran out for uploads", no_memory_for_uploads),
     ("a save of a full store", full_stores),

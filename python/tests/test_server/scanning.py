@@ -11,9 +11,8 @@ from judging import differences, wait_until
 from running import PACKAGE, is_listening, is_running
 
 sys.path.insert(1, PACKAGE)
-from b3store import listening, server_store
+from b3store import listening
 from b3store.answers import Answers
-from b3store.files import lock_folder
 from b3store.server_store import StoreProcess
 
 STREAMS = 300
@@ -110,28 +109,10 @@ def removed_while_listening(program: str) -> List[str]:
         return differences((seen, [True]), (os.listdir(folder), []), (listener.socket.fileno(), -1))
 
 
-def folders_of_killed_servers(program: str) -> List[str]:
-    """Folders that killed servers have left are removed; those that are locked, or new, and others stay."""
-    del program
-    with tempfile.TemporaryDirectory() as room, mock.patch.object(tempfile, "gettempdir", lambda: room):
-        names = ["b3store-server-left", "b3store-server-locked", "other-left", "b3store-server-new"]
-        for name in names:
-            os.mkdir(os.path.join(room, name))
-            os.mkfifo(os.path.join(room, name, "door"))
-        os.symlink(os.path.join(room, "other-left"), os.path.join(room, "b3store-server-link"))
-        for name in (*names[:3], "b3store-server-link"):
-            os.utime(os.path.join(room, name), (0, 0), follow_symlinks=False)
-        locked = lock_folder(os.path.join(room, names[1]))
-        server_store.remove_left_folders()
-        os.close(locked)
-        return differences((sorted(os.listdir(room)), sorted([*names[1:], "b3store-server-link"])), (os.listdir(os.path.join(room, "other-left")), ["door"]))
-
-
 SCANNING = (
     ("pieces of answers", pieces_of_answers),
     ("pieces that are whole answers", whole_answers),
     ("answers cut at every byte", every_cut),
     ("ends without a signal", ends_without_a_signal),
     ("sockets that are removed", removed_while_listening),
-    ("folders of killed servers", folders_of_killed_servers),
 )
