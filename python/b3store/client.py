@@ -19,16 +19,11 @@ SECONDS_BETWEEN_LOOKS = 0.25
 
 
 class PipeSession(Session):
-    """A session whose pipes the server has passed. Lines and answers go through them. Commands that begin uploads are sent over the socket, so that the server
-    can abort the uploads when this process ends."""
+    """A session whose pipes the server has passed. Lines and answers go through them; the socket shows whether the server lives."""
 
     def __init__(self, connection: socket.socket, pipes: List[int], ended: Callable[..., Ended]) -> None:
         super().__init__(open(pipes[0], "wb", 0), open(pipes[1], "rb", READ_LEN), ended)
         self._socket, self._next_look = Session(connection, connection.makefile("rb"), ended), 0.0
-
-    def begins(self) -> Session:
-        """The session for the commands that begin uploads."""
-        return self._socket
 
     def is_at_rest(self) -> bool:
         """Whether the other side has neither closed an end nor sent anything. No answer may be due."""
@@ -64,7 +59,7 @@ class Client(Sessions, Transfers):
 
     Each connection is one session. A client opens `sessions` of them, at most as many as the server has; threads that share the client wait for a free
     one. The server passes it the sessions' pipes, so that it moves no bytes itself; where it can't, as through `ssh`, they go through the socket. When a
-    connection ends, the server aborts the uploads that were begun over it, unless it was started with `--keep-uploads`."""
+    connection ends, the uploads that were begun over it are aborted, unless the server was started with `--keep-uploads`."""
 
     def __init__(self, path: Place, *, sessions: int = 1) -> None:
         """Connects to the socket at a path, and waits for a turn. Raises OSError if there is no server, and Ended if it has no turn for this client."""

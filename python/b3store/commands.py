@@ -208,7 +208,7 @@ class Commands:
 
     def _begin(self, word: str, tenant: int, length: int) -> int:
         """Begins an upload, and returns its number."""
-        return self._in_turn(lambda session: parse_number(session.begins().ask("upload", f"{word} {tenant} {length}")))
+        return self._ask(parse_number, "upload", f"{word} {tenant} {length}")
 
     def _do(self, line: str) -> None:
         """Sends a command that is answered `ok`."""

@@ -2,25 +2,17 @@
 import array
 import contextlib
 import os
-import re
 import select
 import socket
 import time
 from typing import Any, Callable
 
-from .answers import Answers
 from .server_store import Pipes, StoreProcess
-from .values import Refused
 
 ASK_FOR_PIPES = b"pipes\n"
 """The first line of a client that wants its session's pipes, and the line that they come with. The store has no command of this name."""
-BEGIN = re.compile(rb"(?:begin|open) [0-9]{1,20} [0-9]{1,20}")
-"""The lines that such a client may send over the socket: they begin an upload."""
-MAX_LINE_LEN = 64
 BUFFER = 1 << 18
 """The maximum number of bytes that are moved at once."""
-MAX_BEGUN = 1 << 14
-"""With more uploads than this, the store is asked which of them are still open."""
 SECONDS_BETWEEN_CHECKS = 0.5
 SECONDS_BETWEEN_LOOKS = 0.01
 SECONDS_TO_KEEP = 5.0
@@ -30,8 +22,8 @@ SECONDS_TO_KEEP = 5.0
 class Flow:
     """Bytes on their way from one descriptor to another. Neither blocks."""
 
-    def __init__(self, source: int, target: int, first: bytes = b"", see: Callable[[memoryview], None] = lambda _: None) -> None:
-        self._source, self._target, self._rest, self._see = source, target, memoryview(first), see
+    def __init__(self, source: int, target: int, first: bytes = b"") -> None:
+        self._source, self._target, self._rest = source, target, memoryview(first)
         self._room = memoryview(bytearray(BUFFER))
         self.is_over = False
 
@@ -45,7 +37,6 @@ class Flow:
         try:
             if not (self._rest or self.is_over):
                 piece = self._room[: os.readv(self._source, [self._room])]
-                self._see(piece)
                 self._rest, self.is_over = piece, not piece
             if self._rest:
                 self._rest = self._rest[os.write(self._target, self._rest) :]
@@ -58,11 +49,10 @@ class Flow:
 
 
 class Connection:
-    """A client's connection, its session, and the uploads that it began."""
+    """A client's connection, and its session."""
 
-    def __init__(self, store: StoreProcess, connection: socket.socket, keeps_uploads: bool, report: Callable[[str], None]) -> None:
-        self.socket, self._store, self._keeps_uploads, self._report = connection, store, keeps_uploads, report
-        self._answers, self._max_begun = Answers(), MAX_BEGUN
+    def __init__(self, store: StoreProcess, connection: socket.socket, report: Callable[[str], None]) -> None:
+        self.socket, self._store, self._report = connection, store, report
         self._is_cut = False
         self.has_pipes = False
         """Whether the client has the session's pipes: the session lasts until it closes them."""
@@ -77,12 +67,11 @@ class Connection:
         self._is_cut = True
 
     def serve(self) -> None:
-        """Serves the client, until the connection and its session have ended. Then the uploads that it began and left open are aborted."""
+        """Serves the client, until the connection and its session have ended."""
         first = self._first()
         if not first:
             return
         with contextlib.ExitStack() as ending:
-            ending.callback(self._abort)
             pipes = self._store.open_session()
             ending.callback(self._wait_for_end, pipes)
             with pipes.requests, pipes.answers:
@@ -90,8 +79,9 @@ class Connection:
                     self._pass(pipes)
                 else:
                     self._relay(pipes, first)
-            if self.has_pipes:
-                self._begin_uploads(first[len(ASK_FOR_PIPES) :])
+            # the session is the client's now
+            while self.has_pipes and self.socket.recv(BUFFER):
+                pass
 
     def _first(self) -> bytes:
         """The first bytes that arrive: enough of them to show whether the client asks for the pipes."""
@@ -107,30 +97,12 @@ class Connection:
         ends = array.array("i", [pipes.requests.fileno(), pipes.answers.fileno()])
         self.socket.sendmsg([ASK_FOR_PIPES], [(socket.SOL_SOCKET, socket.SCM_RIGHTS, ends)])
 
-    def _begin_uploads(self, text: bytes) -> None:
-        """Has the store execute lines that begin uploads, so that their numbers are known, until the connection ends. Another line ends it."""
-        while True:
-            line, newline, rest = text.partition(b"\n")
-            if newline and BEGIN.fullmatch(line):
-                answer = self._store.answer(line).encode() + b"\n"
-                self._see(memoryview(answer))
-                self.socket.sendall(answer)
-                text = rest
-            elif newline or len(text) > MAX_LINE_LEN:
-                self._report(f"a connection is closed: its client has pipes and sends {text[:MAX_LINE_LEN]!r} over the socket")
-                return self.end()
-            else:
-                piece = self.socket.recv(BUFFER)
-                if not piece:
-                    return
-                text += piece
-
     def _relay(self, pipes: Pipes, first: bytes) -> None:
-        """Moves bytes both ways until the session has ended. When the client has left, the remaining answers are still read: they may report uploads."""
+        """Moves bytes both ways until the session has ended. When the client has left, what it has sent is still executed."""
         for end in self.socket, pipes.requests, pipes.answers:
             os.set_blocking(end.fileno(), False)
         requests = Flow(self.socket.fileno(), pipes.requests.fileno(), first)
-        answers = Flow(pipes.answers.fileno(), self.socket.fileno(), see=self._see)
+        answers = Flow(pipes.answers.fileno(), self.socket.fileno())
         with open(os.devnull, "wb", buffering=0) as nowhere:
             while not (answers.is_over or self._is_cut):
                 poll = select.poll()
@@ -141,20 +113,7 @@ class Connection:
                 if requests.is_over:
                     pipes.requests.close()
                 if not answers.move():
-                    answers = Flow(pipes.answers.fileno(), nowhere.fileno(), see=self._see)
-
-    def _see(self, answers: memoryview) -> None:
-        """Notes the uploads that answers report. Of very many, those that are no longer open are dropped."""
-        if self._keeps_uploads:
-            return
-        if answers.nbytes <= self._answers.body:
-            self._answers.body -= answers.nbytes
-            return
-        self._answers.read(bytes(answers))
-        if len(self._answers.begun) > self._max_begun:
-            with contextlib.suppress(Refused):
-                self._answers.begun &= {upload.number for tenant in self._store.tenants() for upload in self._store.uploads(tenant)}
-            self._max_begun = max(MAX_BEGUN, 2 * len(self._answers.begun))
+                    answers = Flow(pipes.answers.fileno(), nowhere.fileno())
 
     def _wait_for_end(self, pipes: Pipes) -> None:
         """Waits until the store has ended the session."""
@@ -167,12 +126,3 @@ class Connection:
                     self._report("a client keeps the pipes of a connection that has ended: its session lasts until it closes them")
         finally:
             pipes.remove_names()
-
-    def _abort(self) -> None:
-        """Aborts the uploads. For one that was sealed or aborted this has no effect, since numbers are never reused."""
-        for upload in sorted(self._answers.begun):
-            try:
-                self._store.abort(upload)
-            except Refused as refusal:
-                if refusal.number != "S7":
-                    self._report(f"upload {upload} is not aborted: {refusal}")

@@ -162,7 +162,7 @@ class Connections:
         with self._has_waiting:
             while not self._waiting:
                 self._has_waiting.wait()
-            connection = Connection(self._store, self._waiting[0][0], self._options.keep_uploads, report)
+            connection = Connection(self._store, self._waiting[0][0], report)
             self._served.add(connection)
             self._waiting.popleft()
             return connection
@@ -367,7 +367,7 @@ def serve(words: argparse.Namespace) -> int:
         with signals_held():
             store = StoreProcess()
             ending.callback(store.close)
-        store.start(words.program, words.sessions, words.memory)
+        store.start(words.program, words.sessions, words.memory, *["--keep-uploads"] * words.keep_uploads)
         if log is not None:
             text = log.restore(store, more_time())
             if text is not None:

@@ -76,22 +76,20 @@ class StoreProcess(Transfers):
         self._numbers = itertools.count(1)
         self._lock = threading.Lock()
         self._is_started = self._is_closing = self._is_behind = False
-        self._due = 0
-        """How many answers to `stat` follow what is unread: more than one if memory runs out again."""
         self._folder, self._locked = tempfile.mkdtemp(prefix="b3store-server-"), -1
         # what removes old files from /tmp leaves a locked folder alone
         with contextlib.suppress(OSError, FolderInUse):
             self._locked = lock_folder(self._folder)
 
-    def start(self, program: str, sessions: int, memory: int) -> None:
-        """Starts the process, which may take up to `memory` bytes. Raises StoreError if it isn't a store."""
+    def start(self, program: str, sessions: int, memory: int, *options: str) -> None:
+        """Starts the process, with further options. It may take up to `memory` bytes. Raises StoreError if it isn't a store."""
         # a power of two
         self._size = 1 << (min(MAX_PIPE_BYTES, MAX_PIPES_BYTES // (2 * sessions)).bit_length() - 1)
         self._door = os.path.join(self._folder, "door")
         os.mkfifo(self._door, 0o600)
         # also for reading, so that neither this nor a write waits for the store
         self._knocking = os.open(self._door, os.O_RDWR)
-        words = [program, "serve", "--at", self._door, "--sessions", str(sessions)]
+        words = [program, "serve", "--at", self._door, "--sessions", str(sessions), *options]
         try:
             # In its own session, so that an interrupt at a terminal reaches only the server.
             self._process = subprocess.Popen(words, stdin=subprocess.PIPE, stdout=subprocess.PIPE, start_new_session=True)
@@ -168,23 +166,14 @@ class StoreProcess(Transfers):
             return found
 
     def _catch_up(self) -> None:
-        """Reads what is unread."""
-        self._session.write(b"stat\n")
-        self._due += 1
-        while self._due:
-            line = self._answers.readline()
-            if not line:
+        """Reads what is unread, up to an answer that nobody could foresee: raw bytes may look like any other."""
+        line = b"redo %d 0\n" % int.from_bytes(os.urandom(8), "little")
+        self._session.write(line)
+        found = b""
+        while not found.endswith(line):
+            found = self._answers.readline()
+            if not found:
                 raise has_ended()
-            self._due -= line.startswith(b"objects ")
-
-    def answer(self, line: bytes) -> str:
-        """Sends a command whose answer is one line, and returns that."""
-
-        def ask(session: Session) -> str:
-            session.write(line + b"\n")
-            return session.text()
-
-        return self._in_turn(ask)
 
     def status(self) -> Optional[int]:
         """The exit status of the process, or None while it runs. Only the main thread asks: two threads that ask at once may both miss the end."""

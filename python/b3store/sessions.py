@@ -46,10 +46,6 @@ class Session:
     def __init__(self, sending: Any, reading: BinaryIO, ended: Callable[..., Ended]) -> None:
         self._sending, self._reading, self._ended = sending, reading, ended
 
-    def begins(self) -> "Session":
-        """The session for the commands that begin uploads."""
-        return self
-
     def is_at_rest(self) -> bool:
         """Whether the other side has neither closed the connection nor sent anything. No answer may be due."""
         try:

@@ -11,10 +11,15 @@ import tempfile
 import threading
 import time
 from typing import Any, List, Tuple
+from unittest import mock
 
 from judging import SECONDS_TO_WAIT, differences, wait_until
 from lines import SHORTLY
-from running import AS_MODULE, CLEAN, SECONDS, WITH_FEW_FILES, Client, Running, environment, fails, is_listening, is_running
+from running import AS_MODULE, CLEAN, PACKAGE, SECONDS, WITH_FEW_FILES, Client, Running, environment, fails, is_listening, is_running
+
+sys.path.insert(1, PACKAGE)
+from b3store import listening
+from b3store.server_store import StoreProcess
 
 WITH_NOHUP = (
     "import runpy, signal; signal.signal(signal.SIGHUP, signal.SIG_IGN); runpy.run_module('b3store.server', run_name='__main__', alter_sys=True)"
@@ -488,6 +493,30 @@ def sockets_that_are_passed(program: str) -> List[str]:
     return found + differences((fails("--program", program, variables={"LISTEN_FDS": "1", "LISTEN_PID": "1"})[0], 1))
 
 
+def ends_without_a_signal(program: str) -> List[str]:
+    """A store whose process has ended is not usable, also before the main thread has asked for the status."""
+    del program
+    store = StoreProcess.__new__(StoreProcess)
+    store._is_closing = False
+    with subprocess.Popen(["cat"], stdin=subprocess.PIPE) as process:
+        store._process = process
+        found = differences((store.is_usable(), True))
+        process.kill()
+        return found + differences((wait_until(lambda: not is_running(process.pid)), True), (store.is_usable(), False))
+
+
+def removed_while_listening(program: str) -> List[str]:
+    """The file of a socket is removed while the socket still listens: otherwise another server could have replaced it meanwhile."""
+    del program
+    seen: List[bool] = []
+    with tempfile.TemporaryDirectory() as folder:
+        path, unlink = os.path.join(folder, "socket"), os.unlink
+        listener = listening.listen_at(path)
+        with mock.patch.object(os, "unlink", lambda name: (seen.append(is_listening(name)), unlink(name))):
+            listener.close()
+        return differences((seen, [True]), (os.listdir(folder), []), (listener.socket.fileno(), -1))
+
+
 ENDS = (
     ("more connections than sessions", busy),
     ("turns in order", turns_in_order),
@@ -512,4 +541,6 @@ ENDS = (
     ("notifications", notifications),
     ("notifications that nobody reads", notifications_that_nobody_reads),
     ("sockets that are passed", sockets_that_are_passed),
+    ("ends without a signal", ends_without_a_signal),
+    ("sockets that are removed", removed_while_listening),
 )

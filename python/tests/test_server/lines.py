@@ -30,18 +30,15 @@ def a_session(program: str) -> List[str]:
         return found + differences((server.lines, [f"b3store.server: listening on {server.path}\n"]), (server.end(), CLEAN))
 
 
-def _large_contents(program: str, *words: str) -> List[str]:
-    with Running(program, *words) as server, server.client() as one, server.client() as two:
+def contents_of_all_lengths(program: str) -> List[str]:
+    """Parts and contents go both ways as they are, also where they are read in pieces or sent ahead."""
+    with Running(program) as server, server.client() as one, server.client() as two:
         chance, found = random.Random(1), []
         one.ask("tenant 1000000000")
-        for length in (0, 1, 1023, 4095, 4096, 4097, 65535, 65536, 65537, 1 << 20, (1 << 24) - 1, 1 << 24):
-            content = chance.getrandbits(8 * length).to_bytes(length, "little") if length else b""
-            if not length:
-                continue
+        for length in (1, 1023, 4095, 4096, 4097, 65535, 65536, 65537, 1 << 20, (1 << 24) - 1, 1 << 24):
+            content = chance.getrandbits(8 * length).to_bytes(length, "little")
             address = one.file(content)
-            for client in one, two:
-                answer = client.ask(f"fetchb 0 {address}")
-                found += differences((answer == b"bytes %d\n" % length + content, True))
+            found += differences(*((client.ask(f"fetchb 0 {address}") == b"bytes %d\n" % length + content, True) for client in (one, two)))
         pieces = b"".join(f"fetchb 0 {address} {start} 100000\nhas 0 {address}\n".encode() for start in range(0, 1 << 24, 100_000))
         sender = threading.Thread(target=two.send, args=(pieces,))
         sender.start()
@@ -51,16 +48,6 @@ def _large_contents(program: str, *words: str) -> List[str]:
             found += differences((two.answer(), b"has %d\n" % (1 << 24)))
         sender.join()
         return found + differences((digest.hexdigest(), hashlib.sha256(content).hexdigest()))
-
-
-def contents_of_all_lengths(program: str) -> List[str]:
-    """Parts and contents go both ways as they are, also where they are read in pieces or sent ahead."""
-    return _large_contents(program)
-
-
-def contents_with_kept_uploads(program: str) -> List[str]:
-    """The same where answers aren't looked at."""
-    return _large_contents(program, "--keep-uploads")
 
 
 def by_many(program: str) -> List[str]:
@@ -114,40 +101,6 @@ def kept_uploads(program: str) -> List[str]:
             found = differences((one.ask("begin 0 3"), b"upload 0\n"), (one.ends(), b""))
         found += differences((other.uploads(), [0]), (other.ask("putb 0 0 3", b"abc"), b"held 3 all\n"))
         return found + differences((other.ask("seal 0").split()[0], b"new"), (other.ends(), b""), (server.end(), CLEAN))
-
-
-def names_of_uploads_in_contents(program: str) -> List[str]:
-    """Raw bytes, names of addresses and other answers that look like the line of an upload abort nothing."""
-    with Running(program) as server, server.client() as other:
-        other.ask("tenant 1000000")
-        kept = [other.number("begin 0 10") for _ in range(3)]
-        lines = b"upload 0\nupload 1\nupload 2\n"
-        with server.client() as one:
-            found = []
-            for content in (lines, b"\n" + lines, b"x" * 4096 + b"\n" + lines, b"y" * 65530 + b"\n" + lines * 100):
-                address = one.file(content)
-                answers = one.ask(f"fetchb 0 {address}"), one.ask(f"fetch 0 {address}"), one.ask(f"fetchb 0 {address} {len(content) - 9} 99")
-                found += differences((answers[0], b"bytes %d\n" % len(content) + content), (answers[2], b"bytes 9\nupload 2\n"))
-            one.ask("journal")
-            one.ask("uploads 0")
-            found += differences((one.ends(), b""))
-        return found + differences((other.uploads(), kept), (other.ends(), b""), (server.end(), CLEAN))
-
-
-def thousands_of_uploads(program: str) -> List[str]:
-    """Of 40,000 uploads that a connection began, the few that are open at its end are aborted."""
-    with Running(program) as server, server.client() as other:
-        other.ask("tenant 1000000000")
-        kept = other.number("begin 0 7")
-        with server.client() as one:
-            for start in range(0, 40_000, 1000):
-                numbers = range(kept + 1 + start, kept + 1 + start + 1000)
-                one.send(b"begin 0 5\n" * 1000)
-                found = differences(([one.line() for _ in numbers], [b"upload %d\n" % number for number in numbers]))
-                one.send(b"".join(b"abort %d\n" % number for number in numbers if number % 1000))
-                found += differences(({one.line() for number in numbers if number % 1000}, {b"ok\n"}))
-            found += differences((len(other.uploads()), 41), (one.ends(), b""))
-        return found + differences((other.uploads(), [kept]), (other.ends(), b""), (server.end(), CLEAN))
 
 
 def _begin_and_wait(path: str, lines: bytes, pipe: int) -> None:
@@ -234,12 +187,9 @@ def one_that_never_reads_and_dies(program: str) -> List[str]:
 LINES = (
     ("a session", a_session),
     ("contents of all lengths", contents_of_all_lengths),
-    ("contents where uploads are kept", contents_with_kept_uploads),
     ("eight clients", by_many),
     ("the uploads of a connection", uploads_of_a_connection),
     ("uploads that are kept", kept_uploads),
-    ("names of uploads in contents", names_of_uploads_in_contents),
-    ("thousands of uploads", thousands_of_uploads),
     ("clients that are killed", clients_that_are_killed),
     ("half a line", half_a_line),
     ("a line of 100 MB", a_line_of_100_mb),

@@ -56,18 +56,17 @@ class Piped(Client):
 
 
 def passed_pipes(program: str) -> List[str]:
-    """A session goes through its pipes, and its uploads that were begun over the socket are aborted at its end, unless they are kept. So are those of a first
-    line that comes in pieces. Those that were begun through the pipes are nobody's."""
+    """A session goes through its pipes, and its uploads are aborted at its end, unless they are kept. The line that asks for them may come in pieces; what
+    follows it is ignored."""
     found: List[str] = []
-    for words, left in ((), [2]), (("--keep-uploads",), [1, 2]):
+    for words, left in ((), []), (("--keep-uploads",), [1]):
         with Running(program, *words) as server:
             with Piped(server.path) as one:
-                found += differences((one.execute(b"tenant 5000"), b"tenant 0\n"), (one.ask("begin 0 3"), b"upload 0\n"), (one.ask("open 0 1024"), b"upload 1\n"))
-                found += differences((one.execute(b"begin 0 7"), b"upload 2\n"), (one.execute(b"putb 0 0 3\nabc"), b"held 3 all\n"), (one.ask("begin 7 3"), b"refused S1\n"))
-                found += differences((one.execute(b"seal 0")[:3], b"new"), (len(server.children()), 1))
+                found += differences((one.execute(b"tenant 5000"), b"tenant 0\n"), (one.execute(b"begin 0 3"), b"upload 0\n"), (one.execute(b"open 0 1024"), b"upload 1\n"))
+                one.send(b"abort 1\n")
+                found += differences((one.execute(b"putb 0 0 3\nabc"), b"held 3 all\n"), (one.execute(b"seal 0")[:3], b"new"), (len(server.children()), 1))
             with Client(server.path) as other:
-                found += differences((wait_until(lambda: other.uploads() == left), True))
-                found += differences((other.ends(), b""))
+                found += differences((wait_until(lambda: other.uploads() == left), True), (other.ends(), b""))
             with Client(server.path) as slow:
                 for byte in b"pipes\n":
                     slow.send(bytes([byte]))
@@ -100,7 +99,7 @@ def pipes_that_are_kept(program: str) -> List[str]:
     with Running(program, "--sessions", "2", "--wait", "1") as server:
         with Client(server.path) as other:
             kept = Piped(server.path)
-            found = differences((other.ask("tenant 5000"), b"tenant 0\n"), (kept.ask("begin 0 5"), b"upload 0\n"))
+            found = differences((other.ask("tenant 5000"), b"tenant 0\n"), (kept.execute(b"begin 0 5"), b"upload 0\n"))
             Client.close(kept)
             found += differences((wait_until(lambda: server.reported() == KEEPS), True), (kept.execute(b"uploads 0")[:9], b"uploads 1"))
             with Client(server.path) as late:
@@ -130,24 +129,6 @@ def pipes_of_a_child(program: str) -> List[str]:
         with Client(server.path) as late:
             found += differences((late.ask("tenants"), b"tenants 0\n"), (late.ends(), b""))
         return found + differences((server.end()[::2], (0, [])))
-
-
-def wrong_lines_beside_pipes(program: str) -> List[str]:
-    """What is no line that begins an upload ends the connection, with a message: also `pipes` again. Other connections go on."""
-    lines = (b"pipes\n", b"stat\n", b"begin 0\n", b"begin 0 3 4\n", b"begin 0 -3\n", b"abort 0\n", b"begin 0 3\r\n", b"x" * 100, b"begin 0 " + b"9" * 21 + b"\n", b"\0\n")
-    with Running(program, "--sessions", "3") as server, Client(server.path) as other:
-        found = differences((other.ask("tenant 5000"), b"tenant 0\n"))
-        for line in lines:
-            with Piped(server.path) as client:
-                found += differences((client.ask("begin 0 5")[:7], b"upload "), (client.send(line), None), (client.remaining(), b""))
-                found += differences((client.execute(b"tenants")[:9], b"tenants 1"))
-            found += differences((wait_until(lambda: other.uploads() == []), True))
-        with Client(server.path) as both:
-            both.send(b"pipes\npipes\n")
-            found += differences((both.line(), b"pipes\n"), (both.remaining(), b""))
-        told = server.reported().splitlines()
-        found += differences((len(told), len(lines) + 1), ({line[:57] for line in told}, {"b3store.server: a connection is closed: its client has pi"}))
-        return found + differences((other.ends(), b""), (server.end()[::2], (0, [])))
 
 
 HELD = """
@@ -232,7 +213,6 @@ PIPES = (
     ("pipes that nobody takes", pipes_that_nobody_takes),
     ("pipes that are kept", pipes_that_are_kept),
     ("pipes of a child", pipes_of_a_child),
-    ("wrong lines beside pipes", wrong_lines_beside_pipes),
     ("clients of the package that are killed", package_clients_that_are_killed),
     ("a save beside idle clients", saves_beside_idle_clients),
     ("ends that pipes see", ends_that_pipes_see),

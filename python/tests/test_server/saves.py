@@ -22,26 +22,17 @@ from b3store.files import lock_folder
 LONG = (5 << 20) + 5
 """The length of an object that the store redoes alone."""
 FORGETFUL = f"""
-from b3store import redo_log, relay, server_store
 from b3store.sessions import Session
-redo_log.RedoLog.follow = lambda *_: None
-relay.MAX_BEGUN, text, catch_up, left = 4, Session.text, server_store.StoreProcess._catch_up, [7, 1]
-def text_or_fail(session):
+read, left = Session.content_into, [2]
+def read_or_fail(*given):
     left[0] -= 1
     if left[0] == 0:
         raise MemoryError
-    return text(session)
-def catch_up_or_fail(store):
-    left[1] -= 1
-    if left[1] == 0:
-        store._session.write(b"stat\\n")
-        store._due += 1
-        raise MemoryError
-    return catch_up(store)
-Session.text, server_store.StoreProcess._catch_up = text_or_fail, catch_up_or_fail
+    return read(*given)
+Session.content_into = read_or_fail
 {RUN_SERVER}
 """
-"""A server that asks soon which uploads are open, and has no memory for one of them, and none for the next answer."""
+"""A server that has no memory once, when it has read a MiB of an answer of the store."""
 FULL = f"""
 from b3store import Refused, server_store
 redo_to = server_store.StoreProcess._redo_to
@@ -311,21 +302,16 @@ def other_signals(program: str) -> List[str]:
         return differences((server.status(), 0), (server.reported(), ""), (server.left(), []), (state_at(program, folder), state))
 
 
-def no_memory_for_uploads(program: str) -> List[str]:
-    """When memory runs out while the server reads which uploads are open, the connection ends, and later answers are read right, also those of
-    the save."""
-    with save_folder() as folder, Running(program, "--save", folder, python=["-c", FORGETFUL]) as server:
-        with server.client() as client:
-            client.ask("tenant 100000")
-            client.file(b"kept")
-            state = state_of(client)
-            client.send(b"begin 0 5\n" * 20)
-            client.remaining()
-        found = differences((wait_until(lambda: not server.sessions()), True))
-        with server.client() as client:
-            found += differences((client.ask("begin 0 5")[:7], b"upload "), (client.ends(), b""))
-        told = "b3store.server: a connection is closed: MemoryError: \n"
-        return found + differences((server.end(), (0, told, [])), (state_at(program, folder), state))
+def no_memory_for_the_log(program: str) -> List[str]:
+    """When memory runs out within an answer of the store, later answers are read right, whatever the bytes look like that were unread."""
+    with save_folder() as folder, Running(program, "--save", folder, python=["-c", FORGETFUL]) as server, server.client() as client:
+        client.ask("tenant 100000000")
+        client.file(b"objects 1 bytes 2\nredo 5 0\nok\n" * 100_000)
+        told = f"b3store.server: the log in {folder} can't be written: out of memory; it is tried again\nb3store.server: the log in {folder} is written again\n"
+        found = differences((wait_until(lambda: server.reported() == told), True))
+        client.file(b"more")
+        state = state_of(client)
+        return found + differences((client.ends(), b""), (server.end(), (0, told, [])), (state_at(program, folder), state))
 
 
 def full_stores(program: str) -> List[str]:
@@ -418,7 +404,7 @@ SAVES = (
     ("saves that fail", saves_that_fail),
     ("saves that never succeed", saves_that_never_succeed),
     ("saves at other signals", other_signals),
-    ("a save after memory ran out for uploads", no_memory_for_uploads),
+    ("a log after memory ran out", no_memory_for_the_log),
     ("a save of a full store", full_stores),
     ("saves of stores that end", stores_that_end),
     ("a restoration that is stopped", stops_at_the_start),

@@ -8,11 +8,10 @@ from lines import LINES
 from logs import LOGS
 from pipes import PIPES
 from saves import SAVES
-from scanning import SCANNING
 from storm import STORM
 
 
 def cases(program: str) -> Iterator[Tuple[str, Callable[[], List[str]]]]:
     """Each case by its name. It returns what is not as it should be."""
-    for name, case in SCANNING + LINES + PIPES + ENDS + SAVES + LOGS + FOLLOWING + STORM:
+    for name, case in LINES + PIPES + ENDS + SAVES + LOGS + FOLLOWING + STORM:
         yield f"the server: {name}", functools.partial(case, program)
