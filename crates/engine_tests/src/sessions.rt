@@ -62,8 +62,7 @@ const LASTING: &[u8] = b"begin 0 1\n";
 // In a session that aborts its own uploads: a part of that one, and two uploads, of which it aborts one itself.
 const OWN: &[u8] = b"putb 4 0 1\nxbegin 0 1\nbegin 0 1\nabort 5\nuploads 0\n";
 
-const OWN_ANSWERS: &[u8] =
-    b"held 1 all\nupload 5\nupload 6\nok\nuploads 2\n4 1 1 1\n6 1 1 0\n";
+const OWN_ANSWERS: &[u8] = b"held 1 all\nupload 5\nupload 6\nok\nuploads 2\n4 1 1 1\n6 1 1 0\n";
 
 // What is open after it, its last entries, and the upload's seal.
 const LEFT: &[u8] = b"uploads 0\nentries 17\nseal 4\n";

@@ -73,14 +73,7 @@ fn serve(
     ensures { IsServed store.old lines.now result text.new.items store.new }
 {
     let mut reader = lines;
-    serve_over(
-        alloc,
-        store,
-        UploadsAtEnd::Kept,
-        &mut reader,
-        text,
-        work,
-    )
+    serve_over(alloc, store, UploadsAtEnd::Kept, &mut reader, text, work)
 }
 
 fn number_of(served: Result<Verdict, Cause>) -> u32
