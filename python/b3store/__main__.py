@@ -8,7 +8,6 @@ import argparse
 import contextlib
 import errno
 import os
-import re
 import stat
 import sys
 from typing import Any, BinaryIO, Callable, Iterator, List, Optional, Tuple

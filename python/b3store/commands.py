@@ -203,8 +203,19 @@ class Commands:
         return self._talk(read, "redo", redo_line(first, count))
 
     def _put_all(self, upload: int, offset: int, parts: List[memoryview]) -> None:
-        """Puts parts one after another in one turn, and sends ahead of the answers."""
-        self._in_turn(lambda session: parse_held(session.put_ahead(upload, offset, parts)))
+        """Puts a few parts one after another in one turn. All are sent before the first answer is read: the answers fit any pipe."""
+        lines, at = [], offset
+        for part in parts:
+            lines += [b"putb %d %d %d\n" % (upload, at, part.nbytes), part]
+            at += part.nbytes
+
+        def put(session: Session) -> List[Optional[Refused]]:
+            session.write(*lines)
+            return session.refusals("held", len(parts))
+
+        for refusal in self._in_turn(put):
+            if refusal is not None:
+                raise refusal
 
     def _begin(self, word: str, tenant: int, length: int) -> int:
         """Begins an upload, and returns its number."""

@@ -9,12 +9,11 @@ import os
 import sys
 import tempfile
 import time
-from typing import List, Optional
 
 from .client import Client
 from .console import count_text, fault_text, finish, report
 from .redo_log import RedoLog
-from .values import MAX_REDONE, Counts, StoreError
+from .values import MAX_REDONE, StoreError
 
 SECONDS_BETWEEN_LOOKS = 0.1
 """How long nothing is asked for once the copy has everything."""
@@ -34,23 +33,26 @@ class Unlike(StoreError):
     """A copy is of another store, and left as it is."""
 
 
-class Source:
-    """The server that is copied: where it is, and an entry of its journal by which it is known again."""
+class Journal:
+    """An entry of the journal of the store that is copied, by which it is known again."""
 
-    def __init__(self, path: str) -> None:
-        self.path = path
+    def __init__(self) -> None:
         self._number, self._entry = 0, [""]
 
     def check(self, store: Client) -> None:
-        """Raises Unlike if the store isn't the one that was followed before: a server that was started again may have lost what its copy still has."""
+        """Raises Unlike if the entry that was noted is another now: a server that was started again may have lost what its copy still has."""
         if self._entry != [""] and store.entries(self._number, 1) != self._entry:
-            raise Unlike(f"{self.path} was started again: its copy is left as it is")
-        self._number = store.counts().entries - 1
-        if self._number >= 0:
-            self._entry = store.entries(self._number, 1)
+            raise Unlike("the server to copy was started again: its copy is left as it is")
+        self.note(store)
+
+    def note(self, store: Client) -> None:
+        """Notes the last entry."""
+        last = store.counts().entries - 1
+        if last >= 0 and (last != self._number or self._entry == [""]):
+            self._number, self._entry = last, store.entries(last, 1)
 
 
-def follow_to_server(source: Client, path: str) -> None:
+def follow_to_server(source: Client, path: str, journal: Journal) -> None:
     """Keeps the store of another server the same, until a connection ends, which raises Ended."""
     with Client(path) as target:
         at, is_told = make_same(source, target), False
@@ -61,7 +63,9 @@ def follow_to_server(source: Client, path: str) -> None:
             if following == at and not is_told:
                 counts, is_told = target.counts(), True
                 print(f"b3store.follow: {path} has {count_text(counts.objects, 'object')} and {count_text(counts.tenants, 'tenant')}", flush=True)
-            time.sleep(SECONDS_BETWEEN_LOOKS if following == at else 0)
+            if following == at:
+                time.sleep(SECONDS_BETWEEN_LOOKS)
+                journal.note(source)
             at = following
 
 
@@ -84,10 +88,10 @@ def make_same(source: Client, target: Client) -> int:
     return counts.entries if has else 0
 
 
-def follow_to_folder(source: Client, log: RedoLog) -> None:
+def follow_to_folder(source: Client, log: RedoLog, journal: Journal) -> None:
     """Keeps a log of the store, until the connection ends, which raises Ended."""
     while True:
-        source.counts()
+        journal.note(source)
         if not log.follow(source):
             time.sleep(SECONDS_BETWEEN_TRIES)
 
@@ -101,15 +105,15 @@ def run() -> int:
     parser.add_argument("target", metavar="TO", help="the socket of another server; or a folder for a log: one that exists, or a path that ends with /")
     words = parser.parse_args()
     log = RedoLog(words.target, report) if words.target.endswith("/") or os.path.isdir(words.target) else None
-    known, told = Source(words.source), ""
+    journal, told = Journal(), ""
     while True:
         try:
             with Client(words.source) as source:
-                known.check(source)
+                journal.check(source)
                 if log is None:
-                    follow_to_server(source, words.target)
+                    follow_to_server(source, words.target, journal)
                 else:
-                    follow_to_folder(source, log)
+                    follow_to_folder(source, log, journal)
         except Unlike:
             raise
         except (OSError, StoreError, MemoryError) as fault:

@@ -113,18 +113,9 @@ def run_batch(store: Commands, batch: List[Line]) -> List[Optional[Refused]]:
 
     def run(session: Session) -> List[Optional[Refused]]:
         session.write(*(piece for line in batch for piece in (line.text, line.content)))
-        return [refusal_in(session) for _ in batch]
+        return session.refusals(DONE, len(batch))
 
     return store._in_turn(run) if batch else []
-
-
-def refusal_in(session: Session) -> Optional[Refused]:
-    """Reads an answer, and returns the refusal that it is, or None."""
-    try:
-        session.answer(DONE)
-    except Refused as refusal:
-        return refusal
-    return None
 
 
 def run_long(store: "Transfers", line: Line, log: BinaryIO, tick: Tick) -> List[Optional[Refused]]:

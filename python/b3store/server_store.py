@@ -29,7 +29,6 @@ SECONDS_TO_END = 30.0
 SECONDS_TO_ANSWER = 1.0
 """How long the server waits at its end for the answers to its own commands."""
 SECONDS_TO_SEE = 0.5
-SECONDS_BETWEEN_LOOKS = 0.01
 MAX_PIPE_BYTES = 1 << 20
 MAX_PIPES_BYTES = 1 << 25
 """The maximum capacity of all pipes together. Linux grants a user 64 MiB by default."""

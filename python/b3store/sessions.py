@@ -19,9 +19,6 @@ PIECE_LEN = 1 << 20
 """The length of the pieces in which many raw bytes are read."""
 MAX_LINE_LEN = 1 << 12
 """The maximum length of a line of an answer. All that a store writes are much shorter."""
-MAX_AHEAD = 8
-"""How many parts are sent before the first one's answer is read. All their answers fit any pipe, so neither side waits for the other."""
-
 SET_PIPE_SIZE = 1031
 """The number of F_SETPIPE_SZ, which `fcntl` has from Python 3.10 on."""
 
@@ -75,9 +72,7 @@ class Session:
 
     def answer(self, kinds: Kinds) -> List[str]:
         """Returns the words of an answer after its kind, or all of them if several kinds are allowed. Raises Refused."""
-        return self._checked(kinds, self.line())
-
-    def _checked(self, kinds: Kinds, words: List[str]) -> List[str]:
+        words = self.line()
         if words[0] == "refused":
             raise parse_refusal(words[1:])
         if isinstance(kinds, tuple) and words[0] in kinds:
@@ -88,37 +83,16 @@ class Session:
             raise self._ended(f"the store answers {' '.join(words)[:60]!r}")
         return words[1:]
 
-    def answers(self, kinds: Sequence[Kinds]) -> Tuple[List[List[str]], List[Refused]]:
-        """Reads several answers, and returns those that are no refusals, and the refusals."""
-        answers: List[List[str]] = []
-        refusals: List[Refused] = []
-        for kind in kinds:
-            try:
-                answers.append(self.answer(kind))
-            except Refused as refusal:
-                refusals.append(refusal)
-        return answers, refusals
+    def refusals(self, kinds: Kinds, count: int) -> List[Optional[Refused]]:
+        """Reads several answers. Returns the refusal that each of them is, or None."""
+        return [self._refusal(kinds) for _ in range(count)]
 
-    def put_ahead(self, upload: int, offset: int, parts: Sequence[memoryview]) -> List[str]:
-        """Puts parts one after another, each before the answers of the last few, and returns the words of the last answer. Raises the first Refused:
-        nothing is sent after it is read."""
-        waiting = 0
-        answers: List[List[str]] = []
-        refusals: List[Refused] = []
-        for part in parts:
-            self.write(b"putb %d %d %d\n" % (upload, offset, part.nbytes), part)
-            offset += part.nbytes
-            waiting += 1
-            if waiting > MAX_AHEAD:
-                answers, refusals = self.answers(["held"])
-                waiting -= 1
-            if refusals:
-                break
-        last, others = self.answers(["held"] * waiting)
-        refusals += others
-        if refusals:
-            raise refusals[0]
-        return (last or answers)[-1]
+    def _refusal(self, kinds: Kinds) -> Optional[Refused]:
+        try:
+            self.answer(kinds)
+        except Refused as refusal:
+            return refusal
+        return None
 
     def line(self) -> List[str]:
         """Reads a line, and returns its words."""

@@ -15,7 +15,7 @@ from .values import (
 )
 
 PARTS_AT_ONCE = 4
-"""How many parts of a file are read before they are sent in one turn, so that a slow file keeps no session from other threads."""
+"""How many parts are sent in one turn. Those of a file are read before, so that a slow one keeps no session from other threads."""
 MAX_TRIES = 10
 OPEN_LEN = 1 << 40
 """How many bytes an upload whose length isn't known reserves at most: 64 of them fit into a tenant of the maximum limit."""
@@ -144,9 +144,11 @@ class Upload:
         self._send([memoryview(kept)])
 
     def _send(self, parts: List[memoryview]) -> None:
-        """Sends parts. After a failure the upload has to be aborted."""
-        self._commands._put_all(self.number, self._sent, parts)
-        self._sent += sum(part.nbytes for part in parts)
+        """Sends parts, a few in each turn. After a failure the upload has to be aborted."""
+        for start in range(0, len(parts), PARTS_AT_ONCE):
+            batch = parts[start : start + PARTS_AT_ONCE]
+            self._commands._put_all(self.number, self._sent, batch)
+            self._sent += sum(part.nbytes for part in batch)
 
 
 class StoredObject(io.RawIOBase):

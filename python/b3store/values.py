@@ -263,15 +263,10 @@ def parse_length(words: List[str]) -> int:
     return parse_count(words, MAX_UPLOAD_LEN)
 
 
-def parse_filed(words: List[str]) -> Filed:
-    """The answer to a seal."""
-    kind, address, length = words
-    return Filed(kind == "new", parse_address(address), parse_length([length]))
-
-
 def parse_asked(words: List[str], address: Optional[str] = None, length: Optional[int] = None) -> Filed:
     """The answer to a seal, of an object that must have this address and this length. Raises ValueError."""
-    filed = parse_filed(words)
+    kind, found, count = words
+    filed = Filed(kind == "new", parse_address(found), parse_length([count]))
     if address is not None and filed.address != address.lower() or length is not None and filed.length != length:
         raise ValueError(f"{filed.address} of {filed.length} bytes was filed, not what was asked for")
     return filed

@@ -10,7 +10,7 @@ import threading
 
 from bridge import client_of_a_server, over_both
 from shared import ABC, EMPTY, FOUR, SECONDS, Interrupted, differences, interrupt, raised, refusal
-from b3store import MAX_LIMIT, MAX_PART_LEN, MAX_UPLOAD_LEN, PART_LEN, AsyncStore, Ended, Filed, Held, Refused, Totals, Usage
+from b3store import MAX_LIMIT, MAX_UPLOAD_LEN, PART_LEN, AsyncStore, Ended, Filed, Held, Refused, Totals, Usage
 from b3store.values import half_of_memory
 
 LIMIT = 1 << 30

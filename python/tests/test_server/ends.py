@@ -1,7 +1,6 @@
 """How a server starts and ends, when it doesn't start, and which connections it refuses."""
 import contextlib
 import os
-import resource
 import signal
 import socket
 import stat
@@ -90,9 +89,9 @@ def turns_in_order(program: str) -> List[str]:
         return differences((served, list(range(10))), (server.end(), CLEAN))
 
 
-def many_in_turn(program: str) -> List[str]:
-    """Hundreds that come and go leave no open file, no thread and no pipe."""
-    with Running(program, "--sessions", "4") as server:
+def many_at_once(program: str) -> List[str]:
+    """Two hundred connections at once over four sessions are all served, some of which say nothing, and leave no open file, no thread and no pipe."""
+    with Running(program, "--sessions", "4", "--wait", "60") as server:
 
         def kept() -> Tuple[int, int, List[str]]:
             at = f"/proc/{server.process.pid}"
@@ -100,28 +99,16 @@ def many_in_turn(program: str) -> List[str]:
             return len(os.listdir(f"{at}/fd")), len(os.listdir(f"{at}/task")), names
 
         before, found = kept(), []
-        for number in range(300):
-            client = server.client()
-            if number % 3:
-                found += differences((client.ask("tenants"), b"tenants 0\n"))
-            if number % 2:
-                client.ends()
-            client.close()
-        found += differences((wait_until(lambda: kept() == before), True), (before[2], ["door"]))
-        return found[:5] + differences((server.end(), CLEAN))
-
-
-def hundreds_at_once(program: str) -> List[str]:
-    """Two hundred connections at once over four sessions are all served."""
-    with Running(program, "--sessions", "4", "--wait", "60") as server:
-        clients = [server.client() for _ in range(200)]
-        for client in clients:
-            client.send(b"stat\n")
-            client.socket.shutdown(socket.SHUT_WR)
-        answers = [client.remaining() for client in clients]
-        for client in clients:
-            client.close()
-        return differences((set(answers), {b"objects 0 bytes 0 uploads 0 held 0 parts 0\n"}), (server.end(), CLEAN))
+        for _ in range(2):
+            clients = [server.client() for _ in range(200)]
+            for number, client in enumerate(clients):
+                client.send(b"stat\n" if number % 3 else b"")
+                client.socket.shutdown(socket.SHUT_WR)
+            answers = [client.remaining() for client in clients]
+            for client in clients:
+                client.close()
+            found += differences(({*answers[1::3], *answers[2::3]}, {b"objects 0 bytes 0 uploads 0 held 0 parts 0\n"}), ({*answers[::3]}, {b""}))
+        return found + differences((wait_until(lambda: kept() == before), True), (before[2], ["door"]), (server.end(), CLEAN))
 
 
 def too_few_files(program: str) -> List[str]:
@@ -144,24 +131,6 @@ def too_few_files(program: str) -> List[str]:
         found += differences((wait_until(serves_again), True))
         status, told, left = server.end()
         return found + differences((status, 0), ("Traceback" in told, False), (left, []))
-
-
-def too_little_memory(program: str) -> List[str]:
-    """A server that has no memory for the threads of further connections still ends at a signal."""
-    found = []
-    for _ in range(5):
-        with Running(program, "--grace", "0") as server, contextlib.ExitStack() as stack:
-            with server.client() as client:
-                found += differences((client.ask("tenants"), b"tenants 0\n"), (client.ends(), b""))
-            with open(f"/proc/{server.process.pid}/statm", encoding="ascii") as file:
-                has = int(file.read().split()[0]) * resource.getpagesize()
-            resource.prlimit(server.process.pid, resource.RLIMIT_AS, (has, has))
-            for _ in range(200):
-                stack.enter_context(server.client())
-            time.sleep(SHORTLY)
-            server.signal()
-            found += differences((server.status(), 0), ("Traceback" in server.reported(), False), (server.left(), []))
-    return found
 
 
 def connections_without_memory(program: str) -> List[str]:
@@ -331,40 +300,26 @@ def programs_that_are_none(program: str) -> List[str]:
             told = fails("--socket", f"{folder}/socket", "--program", path, temporary=temporary)
             found += differences((told, (1, f"b3store.server: {wanted.format(path)}\n")))
             found += differences((os.listdir(temporary), []), (os.path.exists(f"{folder}/socket"), False))
-    with tempfile.TemporaryDirectory() as folder:
-        path = os.path.join(folder, "token")
-        with open(path, "w", encoding="ascii"):
-            pass
-        found += differences((fails("--socket", f"{folder}/socket", "--program", path), (1, f"b3store.server: cannot start {path}: Permission denied\n")))
     return found
 
 
-def a_store_that_is_killed(program: str) -> List[str]:
-    """The server says so, with its status, and ends with 3; clients see the end."""
-    with Running(program) as server, server.client() as client, server.client() as silent:
-        found = differences((client.ask("tenant 1000000000"), b"tenant 0\n"))
-        address = client.file(bytes(1 << 20))
-        silent.send(f"fetchb 0 {address}\n".encode() * 100)
-        client.ask("begin 0 5")
-        found += differences((wait_until(lambda: server.sessions() == 2), True))
-        time.sleep(SHORTLY)
-        os.kill(server.store(), signal.SIGKILL)
-        wanted = "b3store.server: the store ended with status -9, killed by SIGKILL; everything in it is lost\n"
-        return found + differences((client.remaining(), b""), (server.status(), 3), (server.reported(), wanted), (server.left(), []))
-
-
-def a_server_that_is_killed(program: str) -> List[str]:
-    """All its processes end, whatever their clients do, and the clients see the end."""
-    with Running(program) as server, server.client() as client, server.client() as silent:
-        client.ask("tenant 1000000000")
-        silent.send(f"fetchb 0 {client.file(bytes(1 << 20))}\n".encode() * 100)
-        found = differences((wait_until(lambda: server.sessions() == 2), True))
-        time.sleep(SHORTLY)
-        processes = server.children()
-        server.signal(signal.SIGKILL)
-        server.status()
-        found += differences((client.remaining(), b""), (wait_until(lambda: not any(map(is_running, processes))), True))
-        return found
+def processes_that_are_killed(program: str) -> List[str]:
+    """If the store is killed, the server says so, with its status, and ends with 3; if the server is killed, the store ends. Clients see the end, whatever they
+    do."""
+    found: List[str] = []
+    for kills_store in True, False:
+        with Running(program) as server, server.client() as client, server.client() as silent:
+            client.ask("tenant 1000000000")
+            silent.send(f"fetchb 0 {client.file(bytes(1 << 20))}\n".encode() * 100)
+            found += differences((wait_until(lambda server=server: server.sessions() == 2), True))
+            time.sleep(SHORTLY)
+            processes = server.children()
+            os.kill(server.store() if kills_store else server.process.pid, signal.SIGKILL)
+            found += differences((client.remaining(), b""), (server.status(), 3 if kills_store else -signal.SIGKILL))
+            found += differences((wait_until(lambda processes=processes: not any(map(is_running, processes))), True))
+            told = "b3store.server: the store ended with status -9, killed by SIGKILL; everything in it is lost\n"
+            found += differences((server.reported(), told if kills_store else ""), (server.left() == [], kills_store))
+    return found
 
 
 def ends_in_time(program: str) -> List[str]:
@@ -419,33 +374,25 @@ def _notified(listening: socket.socket) -> bytes:
 
 
 def notifications(program: str) -> List[str]:
-    """The server reports to systemd when it is ready and when it stops, at a path and at an abstract name. While clients last, it asks for more time."""
+    """The server reports to systemd when it is ready and when it stops, at a path and at an abstract name. While clients last, it asks for more time. If
+    systemd takes no reports, it serves and ends all the same."""
     found = []
     with tempfile.TemporaryDirectory() as folder:
         for name, address in (f"{folder}/notify", f"{folder}/notify"), (f"@b3store-test-{os.getpid()}", f"\0b3store-test-{os.getpid()}"):
-            with socket.socket(socket.AF_UNIX, socket.SOCK_DGRAM) as listening:
+            with socket.socket(socket.AF_UNIX, socket.SOCK_DGRAM) as listening, socket.socket(socket.AF_UNIX, socket.SOCK_DGRAM) as sender:
                 listening.bind(address)
                 with Running(program, "--grace", "60", NOTIFY_SOCKET=name) as server, server.client() as client:
                     found += differences((client.ask("tenants"), b"tenants 0\n"), (_notified(listening), b"READY=1"))
                     server.signal()
                     found += differences((_notified(listening), b"STOPPING=1"), (_notified(listening), b"EXTEND_TIMEOUT_USEC=60000000"))
                     found += differences((client.ask("tenants"), b"tenants 0\n"), (client.ends(), b""), (server.status(), 0))
+                sender.setblocking(False)
+                with contextlib.suppress(BlockingIOError):
+                    while True:
+                        sender.sendto(b"x", address)
+                with Running(program, NOTIFY_SOCKET=name) as server:
+                    found += differences((server.end(), CLEAN))
     return found
-
-
-def notifications_that_nobody_reads(program: str) -> List[str]:
-    """A server whose reports systemd doesn't take starts, serves and ends."""
-    with tempfile.TemporaryDirectory() as folder, socket.socket(socket.AF_UNIX, socket.SOCK_DGRAM) as listening:
-        listening.bind(f"{folder}/notify")
-        with socket.socket(socket.AF_UNIX, socket.SOCK_DGRAM) as sender, contextlib.suppress(BlockingIOError):
-            sender.setblocking(False)
-            while True:
-                sender.sendto(b"x", f"{folder}/notify")
-        words = [sys.executable, *AS_MODULE, "--program", program, "--socket", f"{folder}/socket", "--save", f"{folder}/saved"]
-        with subprocess.Popen(words, stdout=subprocess.DEVNULL, env=environment(folder, {"NOTIFY_SOCKET": f"{folder}/notify"})) as server:
-            found = differences((wait_until(lambda: is_listening(f"{folder}/socket"), SECONDS), True))
-            server.terminate()
-            return found + differences((server.wait(SECONDS), 0))
 
 
 PASSING = "import os, sys; os.environ['LISTEN_PID'] = str(os.getpid()); os.execv(sys.argv[1], sys.argv[1:])"
@@ -520,10 +467,8 @@ def removed_while_listening(program: str) -> List[str]:
 ENDS = (
     ("more connections than sessions", busy),
     ("turns in order", turns_in_order),
-    ("hundreds that come and go", many_in_turn),
-    ("hundreds at once", hundreds_at_once),
+    ("hundreds at once", many_at_once),
     ("too few files", too_few_files),
-    ("too little memory", too_little_memory),
     ("a connection without memory", connections_without_memory),
     ("closed streams", closed_streams),
     ("streams without room", streams_without_room),
@@ -533,13 +478,11 @@ ENDS = (
     ("files of sockets", files_of_sockets),
     ("stale sockets", stale_sockets),
     ("programs that are none", programs_that_are_none),
-    ("a store that is killed", a_store_that_is_killed),
-    ("a server that is killed", a_server_that_is_killed),
+    ("processes that are killed", processes_that_are_killed),
     ("an end in time", ends_in_time),
     ("an end by force", ends_by_force),
     ("hang-ups", hangs_up),
     ("notifications", notifications),
-    ("notifications that nobody reads", notifications_that_nobody_reads),
     ("sockets that are passed", sockets_that_are_passed),
     ("ends without a signal", ends_without_a_signal),
     ("sockets that are removed", removed_while_listening),

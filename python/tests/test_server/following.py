@@ -5,9 +5,11 @@ import signal
 import subprocess
 import sys
 import tempfile
+import time
 from typing import Any, Iterator, List, Optional
 
 from judging import differences, wait_until
+from lines import SHORTLY
 from running import CLEAN, PACKAGE, SECONDS, Client, Running, environment
 from saving import append_to, log_of, save_folder, state_at, state_of
 
@@ -124,18 +126,21 @@ def copies_that_are_refused(program: str) -> List[str]:
         state = state_of(copied)
         with Following(first.path, second.path) as following:
             found += differences((following.ends(), [3, "b3store: the copy has 1 tenant, and the store to copy 0: it is left as it is\n"]), (state_of(copied), state))
-        with first.client() as client:
+        copied.close()
+    with Running(program) as first, Running(program) as second, second.client() as copied:
+        with Following(first.path, second.path) as following, first.client() as client:
+            found += differences((following.tells(f"b3store.follow: {second.path} has 0 objects and 0 tenants\n"), True))
             client.ask("tenant 9")
             client.file(b"kept")
+            found += differences((_same(client, copied), True))
             state = state_of(client)
-        with Following(first.path, second.path) as following:
-            found += differences((following.tells(f"b3store.follow: {second.path} has 1 object and 1 tenant\n"), True), (state_of(copied), state))
+            time.sleep(SHORTLY)
             first.signal(signal.SIGKILL)
             first.status()
-            with _again(program, first.path), Client(first.path) as client:
-                client.ask("tenant 9")
+            with _again(program, first.path), Client(first.path) as again:
+                again.ask("tenant 9")
                 status, told = following.ends()
-                found += differences((status, 3), (told.endswith(f"b3store: {first.path} was started again: its copy is left as it is\n"), True), (state_of(copied), state))
+                found += differences((status, 3), (told.endswith("b3store: the server to copy was started again: its copy is left as it is\n"), True), (state_of(copied), state))
         return found + differences((copied.ends(), b""), (second.end(), CLEAN))
 
 

@@ -50,34 +50,6 @@ def contents_of_all_lengths(program: str) -> List[str]:
         return found + differences((digest.hexdigest(), hashlib.sha256(content).hexdigest()))
 
 
-def by_many(program: str) -> List[str]:
-    """Eight clients at once file and fetch, and begin uploads that they leave open: only those are aborted, each once."""
-    with Running(program, "--sessions", "8", "--wait", "60") as server:
-        found: List[str] = []
-        with server.client() as first:
-            first.ask("tenant 1000000000")
-
-        def work(number: int) -> None:
-            with server.client() as client:
-                for turn in range(30):
-                    content = b"%d %d" % (number % 4, turn) * 1000
-                    address = client.file(content)
-                    found.extend(differences((client.ask(f"fetchb 0 {address}"), b"bytes %d\n" % len(content) + content)))
-                    client.ask("begin 0 5")
-                found.extend(differences((len(client.ends()), 0)))
-
-        workers = [threading.Thread(target=work, args=(number,)) for number in range(8)]
-        for worker in workers:
-            worker.start()
-        for worker in workers:
-            worker.join()
-        with server.client() as last:
-            entries = last.ask("journal").splitlines()
-            aborts = [line for line in entries if line.startswith(b"abort")]
-            found += differences((len(aborts), 240), (len(set(aborts)), 240), (last.uploads(), []), (last.number("stat"), 120))
-        return found[:5] + differences((server.end(), CLEAN))
-
-
 def uploads_of_a_connection(program: str) -> List[str]:
     """What it began and left open is aborted when it ends, before it sees the end. What others began stays, also where it put parts; what it sealed stays."""
     with Running(program) as server, server.client() as other:
@@ -152,47 +124,36 @@ def a_line_of_100_mb(program: str) -> List[str]:
 
 
 def one_that_never_reads(program: str) -> List[str]:
-    """It delays no other, and has its answers, in order, when it reads at last."""
-    with Running(program, "--sessions", "3", "--wait", "60") as server, server.client() as silent, server.client() as other:
+    """It delays no other, and has its answers, in order, when it reads at last. If it leaves, its turn is free soon after, and its uploads are aborted."""
+    with Running(program, "--sessions", "3", "--wait", "60") as server, server.client() as other:
         other.ask("tenant 1000000000")
         address = other.file(bytes(1 << 20))
-        lines = f"fetchb 0 {address}\nhas 0 {address}\njournal\n".encode() * 300
-        sender = threading.Thread(target=silent.send, args=(lines,))
-        sender.start()
-        time.sleep(SHORTLY)
-        found = []
-        for number in range(100):
-            other.file(b"%d" % number)
-            with server.client() as one:
-                found += differences((one.ask(f"has 0 {address}"), b"has 1048576\n"))
-        kinds = [silent.answer().split(b" ", 1)[0] for _ in range(900)]
-        sender.join()
-        found += differences((kinds == [b"bytes", b"has", b"journal"] * 300, True), (silent.ends(), b""), (other.ends(), b""))
-        return found[:5] + differences((server.end(), CLEAN))
-
-
-def one_that_never_reads_and_dies(program: str) -> List[str]:
-    """Its turn is free soon after, and its uploads are aborted."""
-    with Running(program, "--sessions", "1", "--wait", "60") as server:
-        with server.client() as first:
-            first.ask("tenant 1000000000")
-            address = first.file(bytes(1 << 20))
         with server.client() as silent:
+            lines = f"fetchb 0 {address}\nhas 0 {address}\njournal\n".encode() * 300
+            sender = threading.Thread(target=silent.send, args=(lines,))
+            sender.start()
+            time.sleep(SHORTLY)
+            found = []
+            for number in range(100):
+                other.file(b"%d" % number)
+                with server.client() as one:
+                    found += differences((one.ask(f"has 0 {address}"), b"has 1048576\n"))
+            kinds = [silent.answer().split(b" ", 1)[0] for _ in range(900)]
+            sender.join()
+            found += differences((kinds == [b"bytes", b"has", b"journal"] * 300, True))
             silent.send(f"begin 0 5\nfetchb 0 {address}\n".encode() * 200)
             time.sleep(SHORTLY)
-        with server.client() as last:
-            return differences((last.uploads(), []), (last.ends(), b""), (server.end(), CLEAN))
+        found += differences((wait_until(lambda: server.sessions() == 1 and other.uploads() == []), True), (other.ends(), b""))
+        return found[:5] + differences((server.end(), CLEAN))
 
 
 LINES = (
     ("a session", a_session),
     ("contents of all lengths", contents_of_all_lengths),
-    ("eight clients", by_many),
     ("the uploads of a connection", uploads_of_a_connection),
     ("uploads that are kept", kept_uploads),
     ("clients that are killed", clients_that_are_killed),
     ("half a line", half_a_line),
     ("a line of 100 MB", a_line_of_100_mb),
     ("a client that never reads", one_that_never_reads),
-    ("a client that never reads, and dies", one_that_never_reads_and_dies),
 )

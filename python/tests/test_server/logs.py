@@ -1,5 +1,6 @@
-"""How a server follows its store with a log, whatever fails or is killed."""
+"""How a log follows a store, whatever fails or is killed."""
 import contextlib
+import errno
 import hashlib
 import os
 import random
@@ -11,15 +12,18 @@ import sys
 import tempfile
 import threading
 import time
-from typing import Any, Dict, Iterator, List, Set, Tuple
+from typing import Any, Callable, Dict, Iterator, List, NamedTuple, Set, Tuple
+from unittest import mock
 
 from judging import differences, wait_until
 from running import AS_MODULE, CLEAN, PACKAGE, SECONDS, Client, Running, fails
-from saving import RUN_QUICKLY, RUN_SERVER, append_to, content_of, files_in, fill_folder, flipped, is_logged, log_of, save_folder, state_at, state_of
+from saving import RUN_QUICKLY, append_to, content_of, files_in, fill_folder, flipped, is_logged, log_of, save_folder, state_at, state_of
 
 sys.path.insert(1, PACKAGE)
-from b3store.redo_log import RedoLog
+from b3store import Refused, redo_log
+from b3store.redo_log import RedoLog, SaveError
 from b3store.server_store import StoreProcess
+from b3store.sessions import Session
 
 KILLS = 20
 WRITERS = 3
@@ -47,48 +51,69 @@ for name in "fsync", "fdatasync", "replace", "unlink", "open", "pwrite", "fstat"
 {RUN_QUICKLY}
 """
 """A server that is killed while it writes its log anew, once it has done as many steps with files as the variable STEPS says."""
-UNSYNCED = f"""
-import errno, os, stat
-fsync, fdatasync, synced = os.fsync, os.fdatasync, [0]
-def sync(file):
-    if stat.S_ISDIR(os.fstat(file).st_mode) and os.path.exists(os.environ["FAILING"]):
-        raise OSError(errno.EIO, os.strerror(errno.EIO))
-    fsync(file)
-def sync_data(file):
-    size = os.fstat(file).st_size
-    if os.path.exists(os.environ["FAILING_DATA"]):
-        # what is not synced is lost
-        os.pwrite(file, bytes(size - synced[0]), synced[0])
-        raise OSError(errno.EIO, os.strerror(errno.EIO))
-    fdatasync(file)
-    synced[0] = size
-os.fsync, os.fdatasync = sync, sync_data
-{RUN_SERVER}
-"""
-"""A server that can't sync folders while there is the file FAILING, nor its log while there is the file FAILING_DATA."""
-UNREPLACED = f"""
-import errno, os
-from b3store import redo_log
-replace, redo_log.SECONDS_BETWEEN_TRIES = os.replace, 0.5
-def replace_or_fail(*given, **named):
-    if os.path.exists(os.environ["FAILING"]):
-        raise OSError(errno.EIO, os.strerror(errno.EIO))
-    replace(*given, **named)
-os.replace = replace_or_fail
-{RUN_QUICKLY}
-"""
-"""A server that can't replace its log while there is the file FAILING, and soon tries again."""
-UNREADABLE = f"""
-import errno, os
-from b3store import redo_log
-def fail(*_):
-    raise OSError(errno.EIO, os.strerror(errno.EIO))
-redo_log.run_lines = fail
-{RUN_SERVER}
-"""
-"""A server whose disk fails when it restores."""
-NO_MEMORY = UNREADABLE.replace("OSError(errno.EIO, os.strerror(errno.EIO))", "MemoryError")
-"""A server that has no memory to restore."""
+
+
+class Logged(NamedTuple):
+    """A store's process, the log that follows it, and what was reported."""
+
+    store: StoreProcess
+    log: RedoLog
+    reported: List[str]
+
+    def follows(self) -> str:
+        """What is reported when the log is followed until it has all."""
+        before = len(self.reported)
+        while self.log.follow(self.store):
+            pass
+        return "\n".join(self.reported[before:])
+
+
+@contextlib.contextmanager
+def _logged(program: str, folder: str) -> Iterator[Logged]:
+    """A store that is restored from a folder, and its log, in this process."""
+    reported: List[str] = []
+    store = StoreProcess()
+    try:
+        store.start(program, 1, 1 << 30)
+        log = RedoLog(folder, reported.append)
+        with contextlib.ExitStack() as ending:
+            ending.callback(lambda: os.close(log._folder.number))
+            log.restore(store)
+            yield Logged(store, log, reported)
+    finally:
+        store.close()
+
+
+def _held(store: StoreProcess) -> Dict[int, Any]:
+    """The limit of each tenant of a store, and its objects."""
+    return {tenant: (usage.limit, [(address, store.fetch(tenant, address)) for address in store.list(tenant)]) for tenant, usage in store.tenants().items()}
+
+
+def _is_saved(program: str, folder: str, store: StoreProcess) -> bool:
+    """Whether a copy of a folder restores what a store has."""
+    with tempfile.TemporaryDirectory() as other:
+        shutil.copy(f"{folder}/log", f"{other}/log")
+        with _logged(program, other) as restored:
+            return _held(restored.store) == _held(store)
+
+
+def _failing(number: int) -> Callable[..., Any]:
+    """A call that fails with an error of the system."""
+    return mock.Mock(side_effect=OSError(number, os.strerror(number)))
+
+
+def _fill(store: StoreProcess) -> List[str]:
+    """Files nine objects of 300,000 bytes, and one that another tenant has, too."""
+    for _ in range(2):
+        store.tenant(100_000_000)
+    store.file(1, b"shared" * 9)
+    return [store.file(0, b"%d" % number * 300_000).address for number in range(9)]
+
+
+def _append(path: str) -> None:
+    """Appends bytes to a file that are no line of a log."""
+    with open(path, "ab") as file:
+        file.write(b"another")
 
 
 def follows_clients(program: str) -> List[str]:
@@ -176,52 +201,79 @@ def kills_beside_writers(program: str) -> List[str]:
     return found[:5] + differences((anew > 2, True), (len(sent) > KILLS * WRITERS, True))
 
 
-def writes_anew(program: str) -> List[str]:
-    """A log of which the store has less than half is written anew, while the server runs and after a restart; one that isn't long stays."""
+def written_anew(program: str) -> List[str]:
+    """A log of which the store has less than half is written anew, also after a restart, and followed; one that isn't long stays."""
     with save_folder() as folder:
-        with Running(program, "--save", folder, python=["-c", RUN_QUICKLY]) as server, server.client() as client:
-            client.ask("tenant 100000000")
-            client.ask("tenant 100000000")
-            addresses = [client.file(b"%d" % number * 300_000) for number in range(9)]
-            client.file(b"shared" * 9, 1)
+        with _logged(program, folder) as logged:
+            addresses = _fill(logged.store)
+            found = differences((logged.follows(), ""))
             inode = os.stat(f"{folder}/log").st_ino
-            found = differences((is_logged(folder, b"shared" * 9), True), (os.stat(f"{folder}/log").st_ino, inode))
+            logged.store.file(0, b"kept")
+            found += differences((logged.follows(), ""), (os.stat(f"{folder}/log").st_ino, inode))
             for address in addresses[:7]:
-                client.ask(f"forget 0 {address}")
-            found += differences((wait_until(lambda: os.stat(f"{folder}/log").st_size < 1_400_000), True), (os.listdir(folder), ["log"]))
-            late = client.file(b"late").encode()
-            state = state_of(client)
-            found += differences((is_logged(folder, late), True))
-            server.signal(signal.SIGKILL)
-            server.status()
-        found += differences((state_at(program, folder), state))
+                logged.store.forget(0, address)
+            found += differences((logged.follows(), ""), (os.stat(f"{folder}/log").st_size < 1_400_000, True), (os.listdir(folder), ["log"]))
+            logged.store.file(0, b"late")
+            found += differences((logged.follows(), ""), (_is_saved(program, folder, logged.store), True))
         with open(f"{folder}/log", "ab") as file:
             # the second of each two is refused S12
             file.write(b"fileas 0 %s 300000\n%sforget 0 %s\nforget 0 %s\n" % (addresses[0].encode(), b"0" * 300_000, *[addresses[0].encode()] * 2) * 6)
-        with Running(program, "--save", folder) as server:
-            found += differences((wait_until(lambda: os.stat(f"{folder}/log").st_size < 700_000), True), (server.end(), CLEAN))
-    return found
+        with _logged(program, folder) as logged:
+            return found + differences((logged.follows(), ""), (os.stat(f"{folder}/log").st_size < 700_000, True), (_is_saved(program, folder, logged.store), True))
 
 
-def replacements_that_fail(program: str) -> List[str]:
-    """If a log can't be written anew, that is reported once, the old one is extended, and it is tried again."""
-    with save_folder() as folder:
-        failing = append_to(f"{folder}-failing")
-        with Running(program, "--save", folder, python=["-c", UNREPLACED], FAILING=failing) as server, server.client() as client:
-            client.ask("tenant 100000000")
-            for address in [client.file(b"%d" % number * 300_000) for number in range(9)][:8]:
-                client.ask(f"forget 0 {address}")
-            told = f"b3store.server: the long log in {folder} can't be written anew: Input/output error; it is tried again\n"
-            found = differences((wait_until(lambda: server.reported() == told), True))
-            client.file(b"late")
-            state = state_of(client)
-            time.sleep(1)
-            found += differences((is_logged(folder, b"late"), True), (os.stat(f"{folder}/log").st_size > 1 << 20, True))
-            os.unlink(failing)
-            found += differences((wait_until(lambda: os.stat(f"{folder}/log").st_size < 1 << 20), True), (server.reported(), told))
-            server.signal(signal.SIGKILL)
-            server.status()
-        return found + differences((state_at(program, folder), state))
+def faults_of_logs(program: str) -> List[str]:
+    """If a log can't be written, synced or written anew, that is reported once, and tried again: nothing is lost, also if the system lost what wasn't synced."""
+    with save_folder() as folder, _logged(program, folder) as logged:
+        addresses, log = _fill(logged.store), f"the log in {folder}"
+        found = differences((logged.follows(), ""))
+        for name, number in ("pwrite", errno.ENOSPC), ("fdatasync", errno.EIO), ("ftruncate", errno.EROFS):
+            size = os.stat(f"{folder}/log").st_size
+            logged.store.file(0, name.encode() * 9)
+            if name == "ftruncate":
+                _append(f"{folder}/log")
+            with mock.patch.object(os, name, _failing(number)):
+                found += differences((logged.follows(), f"{log} can't be written: {os.strerror(number)}; it is tried again"), (logged.follows(), ""))
+            if name == "fdatasync":
+                os.truncate(f"{folder}/log", size)
+                os.truncate(f"{folder}/log", size + 99)
+            found += differences((logged.follows(), f"{log} is written again"), (_is_saved(program, folder, logged.store), True))
+        for address in addresses[:7]:
+            logged.store.forget(0, address)
+        with mock.patch.object(os, "replace", _failing(errno.EIO)), mock.patch.object(redo_log, "SECONDS_BETWEEN_TRIES", 0.0):
+            told = f"the long log in {folder} can't be written anew: Input/output error; it is tried again"
+            found += differences((logged.follows(), told), (logged.follows(), ""), (_is_saved(program, folder, logged.store), True))
+        found += differences((logged.follows(), ""), (os.stat(f"{folder}/log").st_size < 1_400_000, True), (os.listdir(folder), ["log"]))
+        os.unlink(f"{folder}/log")
+        with mock.patch.object(os, "fsync", _failing(errno.EIO)):
+            found += differences((logged.follows(), f"{log} can't be written: Input/output error; it is tried again"))
+        return found + differences((logged.follows(), f"{log} is written again"), (_is_saved(program, folder, logged.store), True))
+
+
+def little_memory(program: str) -> List[str]:
+    """A store that has no memory to redo several entries at once is saved all the same. If this process has none within an answer, later ones are read right,
+    whatever the bytes look like that were unread."""
+    with save_folder() as folder, _logged(program, folder) as logged:
+        redo_to, read, left = logged.store._redo_to, Session.content_into, [2]
+
+        def redo_one(write: Any, first: int, count: int) -> int:
+            if count > 1:
+                raise Refused("S14")
+            return redo_to(write, first, count)
+
+        def read_or_fail(*given: Any) -> int:
+            left[0] -= 1
+            if left[0] == 0:
+                raise MemoryError
+            return read(*given)
+
+        _fill(logged.store)
+        with mock.patch.object(logged.store, "_redo_to", redo_one):
+            found = differences((logged.follows(), ""), (_is_saved(program, folder, logged.store), True))
+        logged.store.file(0, b"objects 1 bytes 2\nredo 5 0\nok\n" * 100_000)
+        with mock.patch.object(Session, "content_into", read_or_fail):
+            found += differences((logged.follows(), f"the log in {folder} can't be written: out of memory; it is tried again"))
+        return found + differences((logged.follows(), f"the log in {folder} is written again"), (_is_saved(program, folder, logged.store), True))
 
 
 def kills_while_written_anew(program: str) -> List[str]:
@@ -255,46 +307,28 @@ def torn_ends(program: str) -> List[str]:
     found = []
     for length in range(len(SMALL) + 1):
         with save_folder() as folder:
-            os.mkdir(folder)
+            os.mkdir(folder, 0o700)
             with open(f"{folder}/log", "wb") as file:
                 file.write(SMALL[:length])
-            reported: List[str] = []
-            log, store, whole = RedoLog(folder, reported.append), StoreProcess(), max(end for end in ENDS if end <= length)
-            try:
-                store.start(program, 1, 1 << 30)
-                log.restore(store, lambda: None)
+            whole = max(end for end in ENDS if end <= length)
+            with _logged(program, folder) as logged:
                 told = f"{folder}/log ended within a line: its last {length - whole} byte{'s are' if length - whole > 1 else ' is'} removed"
-                found += differences((reported, [told] if length > whole else []), (log_of(folder), SMALL[:whole]))
-                store.tenant(5)
-                log.follow(store)
-                found += differences((log_of(folder), SMALL[:whole] + b"tenant 5\n"))
-            finally:
-                store.close()
+                found += differences((logged.reported, [told] if length > whole else []), (log_of(folder), SMALL[:whole]))
+                logged.store.tenant(5)
+                found += differences((logged.follows(), ""), (log_of(folder), SMALL[:whole] + b"tenant 5\n"))
     return found[:5] + differences((len(SMALL), ENDS[-1]))
 
 
 def logs_that_are_changed(program: str) -> List[str]:
-    """A log that is removed, replaced or truncated while the server runs is written anew; what another program appends is removed."""
-    found = []
-
-    def append(path: str) -> None:
-        with open(path, "ab") as file:
-            file.write(b"another")
-
-    for change in os.unlink, lambda path: os.rename(append_to(f"{path}-other"), path), lambda path: os.truncate(path, 20), append:
-        with save_folder() as folder, Running(program, "--save", folder) as server, server.client() as client:
-            client.ask("tenant 100000000")
-            for number in range(4):
-                client.file(b"%d" % number * 300_000)
-            found += differences((is_logged(folder, b"3" * 300_000), True))
+    """A log that is removed, replaced or truncated meanwhile is written anew; what another program appends is removed."""
+    with save_folder() as folder, _logged(program, folder) as logged:
+        _fill(logged.store)
+        found = differences((logged.follows(), ""))
+        for change in os.unlink, lambda path: os.rename(append_to(f"{path}-other"), path), lambda path: os.truncate(path, 20), _append:
             change(f"{folder}/log")
-            address = client.file(b"more").encode()
-            state = state_of(client)
-            found += differences((is_logged(folder, address), True))
-            server.signal(signal.SIGKILL)
-            server.status()
-            found += differences((server.reported(), ""), (state_at(program, folder), state))
-    return found
+            logged.store.file(0, b"%d" % len(logged.store.list(0)))
+            found += differences((logged.follows(), ""), (_is_saved(program, folder, logged.store), True), (os.listdir(folder), ["log"]))
+        return found
 
 
 def _damaged(log: bytes) -> Iterator[Tuple[bytes, str]]:
@@ -312,52 +346,49 @@ def _damaged(log: bytes) -> Iterator[Tuple[bytes, str]]:
 
 
 def damaged_logs(program: str) -> List[str]:
-    """A line that is wrong or refused is named in a message, the status is 1, and nothing in the folder changes."""
-    found = []
+    """A line that is wrong or refused is named in a message, and nothing in the folder changes; nor if the log can't be read."""
     with save_folder() as folder:
         fill_folder(program, folder)
-        for log, wanted in _damaged(log_of(folder)):
+        log = log_of(folder)
+        cases = [*_damaged(log)]
+        found = []
+        for content, wanted in cases:
             with open(f"{folder}/log", "wb") as file:
-                file.write(log)
+                file.write(content)
             before = files_in(folder)
-            status, told = fails("--program", program, "--socket", f"{folder}-socket", "--save", folder)
-            found += differences((status, 1), (wanted in told and told.count("\n") == 1, True), (files_in(folder), before))
-    return found[:5]
+            found += differences((wanted in _unrestored(program, folder), True), (files_in(folder), before))
+        for error, reason in (OSError(errno.EIO, os.strerror(errno.EIO)), "Input/output error"), (MemoryError(), "out of memory"):
+            with mock.patch.object(redo_log, "run_lines", mock.Mock(side_effect=error)):
+                found += differences((_unrestored(program, folder), f"the store that is saved in {folder}/log can't be restored: {reason}"), (files_in(folder), before))
+        status, told = fails("--program", program, "--socket", f"{folder}-socket", "--save", folder)
+        return found[:5] + differences((status, 1), (told.startswith(f"b3store.server: {folder}/log: line "), True), (told.count("\n"), 1))
+
+
+def _unrestored(program: str, folder: str) -> str:
+    """Why a folder can't be restored."""
+    try:
+        with _logged(program, folder):
+            return ""
+    except SaveError as error:
+        return str(error)
 
 
 def damaged_objects(program: str) -> List[str]:
-    """An object that is damaged is reported, and all others are restored; a log that is written anew doesn't have it."""
+    """An object that is damaged is reported, and all others are restored."""
     with save_folder() as folder:
-        with Running(program, "--save", folder) as server:
-            with server.client() as client:
-                client.ask("tenant 10000000")
-                addresses = [client.file(b"%d" % number * length) for number, length in enumerate((5, 2_000_000, 5, 70_000))]
-                client.ask(f"forget 0 {addresses[0]}")
-            server.end()
+        with _logged(program, folder) as logged:
+            logged.store.tenant()
+            addresses = [logged.store.upload(b"%d" % number * length, 0).address for number, length in enumerate((5, 2_000_000, 5, 70_000))]
+            logged.follows()
         log = log_of(folder)
         for at in log.index(b"1" * 9) + 1_500_000, log.index(b"3" * 9) + 9:
             log = flipped(log, at)
         with open(f"{folder}/log", "wb") as file:
             file.write(log)
-        with Running(program, "--save", folder) as server, server.client() as client:
-            found = differences(([row.split()[0].decode() for row in client.ask("list 0").splitlines()[1:]], [addresses[2]]))
-            told = [f"b3store.server: {folder}/log: line {number}, at byte {log.index(address.encode()) - 9}, is refused: S11: " for number, address in ((3, addresses[1]), (5, addresses[3]))]
-            found += differences((len(server.reported().splitlines()), 2), *((line[: len(wanted)], wanted) for line, wanted in zip(server.reported().splitlines(), told)))
-            found += differences((server.reported().count(": this object is damaged, and not restored\n"), 2))
-            found += differences((wait_until(lambda: os.stat(f"{folder}/log").st_size < 1000), True), (client.ends(), b""), (server.end()[::2], (0, [])))
-        return found
-
-
-def logs_that_cannot_be_read(program: str) -> List[str]:
-    """If the log can't be read, or there is no memory for that, a message says so, the status is 1, and nothing in the folder changes."""
-    found = []
-    with save_folder() as folder:
-        fill_folder(program, folder)
-        files, wanted = files_in(folder), f"b3store.server: the store that is saved in {folder}/log can't be restored: "
-        for script, reason in (UNREADABLE, "Input/output error\n"), (NO_MEMORY, "out of memory\n"):
-            with Running(program, "--save", folder, python=["-c", script]) as server:
-                found += differences((server.status(), 1), (server.reported(), wanted + reason), (files_in(folder), files), (server.left(), []))
-    return found
+        with _logged(program, folder) as logged:
+            told = [f"{folder}/log: line {number}, at byte {log.index(addresses[at].encode()) - 9}, is refused: S11: " for number, at in ((3, 1), (5, 3))]
+            found = differences(([*logged.store.list(0)], addresses[::2]), ([line[: len(wanted)] for line, wanted in zip(logged.reported, told)], told))
+            return found + differences(([line.endswith(": this object is damaged, and not restored") for line in logged.reported], [True] * 2))
 
 
 def _cannot_write(program: str, folder: str, fill: Any, free: Any, **more: Any) -> List[str]:
@@ -419,43 +450,16 @@ def full_disks(program: str) -> List[str]:
             subprocess.run(["umount", disk], check=True)
 
 
-def syncs_that_fail(program: str) -> List[str]:
-    """If the log can't be synced, the system may have lost what was written: it is written again. If the folder can't be synced, that is tried again too."""
-    found = []
-    with save_folder() as folder:
-        failing, failing_data = f"{folder}-failing", f"{folder}-data"
-        words = {"python": ["-c", UNSYNCED], "FAILING": failing, "FAILING_DATA": failing_data}
-        with Running(program, "--save", folder, **words) as server, server.client() as client:  # type: ignore[arg-type]
-            client.ask("tenant 5000000")
-            client.file(b"first")
-            found += differences((is_logged(folder, b"first"), True))
-            time.sleep(2)
-            for path in failing_data, failing:
-                append_to(path)
-                if path == failing:
-                    os.unlink(f"{folder}/log")
-                client.file(path.encode())
-                told = f"b3store.server: the log in {folder} can't be written: Input/output error; it is tried again\n"
-                found += differences((wait_until(lambda told=told: told in server.reported()), True))
-                os.unlink(path)
-                found += differences((wait_until(lambda: server.reported().endswith(" is written again\n")), True), (is_logged(folder, path.encode()), True))
-            state = state_of(client)
-            server.signal(signal.SIGKILL)
-            server.status()
-        return found + differences((state_at(program, folder), state))
-
-
 LOGS = (
     ("a log that follows clients", follows_clients),
     ("kills beside writers", kills_beside_writers),
-    ("a log that is written anew", writes_anew),
-    ("logs that can't be replaced", replacements_that_fail),
+    ("a log that is written anew", written_anew),
+    ("faults of logs", faults_of_logs),
+    ("a log with little memory", little_memory),
     ("kills while a log is written anew", kills_while_written_anew),
     ("torn ends of a log", torn_ends),
     ("logs that are changed", logs_that_are_changed),
     ("damaged logs", damaged_logs),
     ("damaged objects of a log", damaged_objects),
-    ("logs that can't be read", logs_that_cannot_be_read),
     ("logs on a full disk", full_disks),
-    ("logs that can't be synced", syncs_that_fail),
 )

@@ -94,8 +94,8 @@ def pipes_that_nobody_takes(program: str) -> List[str]:
 
 
 def pipes_that_are_kept(program: str) -> List[str]:
-    """A client that closes its socket and keeps the pipes keeps its session and its turn, which is reported. Once it closes them, the turn is free, and its
-    uploads are aborted. It keeps no other client out, and not the end of the server."""
+    """A client that closes its socket and keeps the pipes keeps its session and its turn, which is reported, and so does a process that it has started with
+    them. Then the turn is free, and its uploads are aborted. It keeps no other client out, and not the end of the server."""
     with Running(program, "--sessions", "2", "--wait", "1") as server:
         with Client(server.path) as other:
             kept = Piped(server.path)
@@ -104,7 +104,12 @@ def pipes_that_are_kept(program: str) -> List[str]:
             found += differences((wait_until(lambda: server.reported() == KEEPS), True), (kept.execute(b"uploads 0")[:9], b"uploads 1"))
             with Client(server.path) as late:
                 found += differences((late.remaining(), b"busy\n"))
+            child = subprocess.Popen(["sleep", "60"], pass_fds=list(kept.pipes))
             kept.drop()
+            time.sleep(SHORTLY)
+            found += differences((len(other.uploads()), 1))
+            child.kill()
+            child.wait()
             found += differences((wait_until(lambda: other.uploads() == []), True))
             with Client(server.path) as late:
                 found += differences((late.ask("tenants"), b"tenants 1\n0 0 0 5000\n"), (late.ends(), b""))
@@ -114,21 +119,6 @@ def pipes_that_are_kept(program: str) -> List[str]:
             server.signal()
             found += differences((server.status(), 0), (server.left(), []), (server.reported(), KEEPS + KEEPS + SHUT_DOWN))
             return found + differences((again.is_answered(), False))
-
-
-def pipes_of_a_child(program: str) -> List[str]:
-    """A process that a client has started with its pipes keeps the session, until it ends."""
-    with Running(program, "--sessions", "1", "--wait", "1") as server:
-        with Piped(server.path) as client:
-            child = subprocess.Popen(["sleep", "60"], pass_fds=list(client.pipes))
-        with Client(server.path) as late:
-            found = differences((late.remaining(), b"busy\n"))
-        child.kill()
-        child.wait()
-        found += differences((wait_until(lambda: not server.sessions()), True))
-        with Client(server.path) as late:
-            found += differences((late.ask("tenants"), b"tenants 0\n"), (late.ends(), b""))
-        return found + differences((server.end()[::2], (0, [])))
 
 
 HELD = """
@@ -212,7 +202,6 @@ PIPES = (
     ("pipes that are passed", passed_pipes),
     ("pipes that nobody takes", pipes_that_nobody_takes),
     ("pipes that are kept", pipes_that_are_kept),
-    ("pipes of a child", pipes_of_a_child),
     ("clients of the package that are killed", package_clients_that_are_killed),
     ("a save beside idle clients", saves_beside_idle_clients),
     ("ends that pipes see", ends_that_pipes_see),

@@ -21,29 +21,6 @@ from b3store.files import lock_folder
 
 LONG = (5 << 20) + 5
 """The length of an object that the store redoes alone."""
-FORGETFUL = f"""
-from b3store.sessions import Session
-read, left = Session.content_into, [2]
-def read_or_fail(*given):
-    left[0] -= 1
-    if left[0] == 0:
-        raise MemoryError
-    return read(*given)
-Session.content_into = read_or_fail
-{RUN_SERVER}
-"""
-"""A server that has no memory once, when it has read a MiB of an answer of the store."""
-FULL = f"""
-from b3store import Refused, server_store
-redo_to = server_store.StoreProcess._redo_to
-def redo_or_refuse(store, write, first, count):
-    if count > 1:
-        raise Refused("S14")
-    return redo_to(store, write, first, count)
-server_store.StoreProcess._redo_to = redo_or_refuse
-{RUN_SERVER}
-"""
-"""A server whose store has no memory to redo several entries at once."""
 LIMITED = """
 import os, resource, sys
 from b3store import server
@@ -302,28 +279,6 @@ def other_signals(program: str) -> List[str]:
         return differences((server.status(), 0), (server.reported(), ""), (server.left(), []), (state_at(program, folder), state))
 
 
-def no_memory_for_the_log(program: str) -> List[str]:
-    """When memory runs out within an answer of the store, later answers are read right, whatever the bytes look like that were unread."""
-    with save_folder() as folder, Running(program, "--save", folder, python=["-c", FORGETFUL]) as server, server.client() as client:
-        client.ask("tenant 100000000")
-        client.file(b"objects 1 bytes 2\nredo 5 0\nok\n" * 100_000)
-        told = f"b3store.server: the log in {folder} can't be written: out of memory; it is tried again\nb3store.server: the log in {folder} is written again\n"
-        found = differences((wait_until(lambda: server.reported() == told), True))
-        client.file(b"more")
-        state = state_of(client)
-        return found + differences((client.ends(), b""), (server.end(), (0, told, [])), (state_at(program, folder), state))
-
-
-def full_stores(program: str) -> List[str]:
-    """A store that has no memory to list its objects is saved all the same."""
-    with save_folder() as folder, Running(program, "--save", folder, "--keep-uploads", python=["-c", FULL]) as server, server.client() as client:
-        _fill(client)
-        state = state_of(client)
-        client.ask(f"abort {client.number('open 0 5')}")
-        client.ask("begin 0 5")
-        return differences((client.ends(), b""), (server.end(), CLEAN), (state_at(program, folder), state))
-
-
 def stores_that_end(program: str) -> List[str]:
     """When the store's process is killed, the folder keeps the save before. A start whose store ends, or that is stopped, changes nothing."""
     with save_folder() as folder:
@@ -404,8 +359,6 @@ SAVES = (
     ("saves that fail", saves_that_fail),
     ("saves that never succeed", saves_that_never_succeed),
     ("saves at other signals", other_signals),
-    ("a log after memory ran out", no_memory_for_the_log),
-    ("a save of a full store", full_stores),
     ("saves of stores that end", stores_that_end),
     ("a restoration that is stopped", stops_at_the_start),
     ("time for a save", asks_for_time),

@@ -48,7 +48,7 @@ def _storm(program: str, *words: str) -> List[str]:
         if "--keep-uploads" in words:
             found += differences((aborts, []))
         else:
-            found += differences((open_uploads, [[]] * TENANTS)) + _early(aborts, histories)
+            found += differences((open_uploads, [[]] * TENANTS))
         return found[:3] + differences((server.end()[:2], (0, "")))
 
 
@@ -66,26 +66,13 @@ def _aborts_of_server(modules: Any, journal: List[str], histories: List[List[Any
     return [modules.Op(0, began, entry, (0, 0), ended, b"ok\n") for entry in journal if entry.startswith("abort ") and entry not in done]
 
 
-def _early(aborts: List[Any], histories: List[List[Any]]) -> List[str]:
-    """The server's aborts that come before an entry of the session that began the upload."""
-    last_places, sessions = {}, {}
-    for client, history in enumerate(histories):
-        for number, op in enumerate(history):
-            session = (client, number // (COMMANDS // CLIENTS // SESSIONS_OF_CLIENT))
-            if op.place is not None:
-                last_places[session] = op.place
-            if op.line.split()[0] in ("begin", "open") and op.answer.startswith(b"upload "):
-                sessions[int(op.answer.split()[1])] = session
-    return [f"{op.line} comes before its session's end" for op in aborts if op.place < last_places[sessions[int(op.line.split()[1])]]]
-
-
 def storm(program: str) -> List[str]:
-    """The server aborts what sessions left open, after their last command, and nothing else."""
+    """What sessions left open is aborted, and nothing else is done."""
     return _storm(program)
 
 
 def storm_with_kept_uploads(program: str) -> List[str]:
-    """The server does nothing of its own."""
+    """The same where nothing is aborted."""
     return _storm(program, "--keep-uploads")
 
 
