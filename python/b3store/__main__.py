@@ -283,7 +283,8 @@ def make_parser() -> argparse.ArgumentParser:
     add = add_command(commands, get, "get", "write an object's bytes")
     add("address", type=address_argument, metavar="ADDRESS")
     add("-o", "--output", default="-", metavar="FILE", help="write to this file (default: -, standard output)")
-    add("--range", type=range_argument, default=(0, MAX_UPLOAD_LEN), metavar="FROM:LEN", help="write LEN bytes, starting at byte FROM; without LEN, all bytes from there on")
+    range_help = "write LEN bytes, starting at byte FROM; without LEN, all bytes from there on"
+    add("--range", type=range_argument, default=(0, MAX_UPLOAD_LEN), metavar="FROM:LEN", help=range_help)
     add = add_command(commands, has, "has", "print which of these objects the tenant holds, with their lengths")
     add("addresses", nargs="+", type=address_argument, metavar="ADDRESS")
     add_command(commands, ls, "ls", "print the address and length of each object that the tenant holds")

@@ -84,8 +84,3 @@ def create_anew(folder: int, name: str) -> BinaryIO:
 def opener_in(folder: int) -> Callable[[str, int], int]:
     """For the argument `opener` of `open`: opens a file of an open folder by its name, and follows no link."""
     return lambda name, flags: os.open(name, flags | os.O_NOFOLLOW, 0o600, dir_fd=folder)
-
-
-def private(path: str, flags: int) -> int:
-    """Opens a file that only this user may read, if it has to be created. For the argument `opener` of `open`."""
-    return os.open(path, flags, 0o600)

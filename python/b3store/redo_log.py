@@ -254,8 +254,8 @@ class RedoLog:
             return new
 
     def finish(self, store: Transfers, tick: Tick = lambda: None) -> str:
-        """Appends what was changed, syncs the log, and returns what the store has. Later calls of `follow` have no effect. Raises SaveError; then the log can be
-        followed again."""
+        """Appends what was changed, syncs the log, and returns what the store has. Later calls of `follow` have no effect. Raises SaveError; then the log can
+        be followed again."""
         with self._lock:
             try:
                 counts = self._append(store, tick)
@@ -347,8 +347,8 @@ def reason_of(error: BaseException) -> str:
 
 
 def open_folder(path: str) -> Folder:
-    """Opens and locks a folder, which is made if there is none. Raises OSError, FolderInUse, and SaveError for one that another user could change: what is saved
-    could be replaced."""
+    """Opens and locks a folder, which is made if there is none. Raises OSError, FolderInUse, and SaveError for one that another user could change: what is
+    saved could be replaced."""
     with contextlib.suppress(FileExistsError):
         os.mkdir(path, 0o700)
         above = os.open(os.path.dirname(os.path.abspath(path)), os.O_RDONLY | os.O_DIRECTORY)

@@ -200,9 +200,9 @@ class Server:
         self._selector.register(self._signals, selectors.EVENT_READ)
         for listener in listeners:
             listener.socket.setblocking(False)
+            self._selector.register(listener.socket, selectors.EVENT_READ, listener)
         if log is not None:
             _thread.start_new_thread(self._follow, (log,))
-        self._let_in()
 
     def _follow(self, log: RedoLog) -> None:
         """Appends to the log what clients change, until the process ends."""
@@ -274,11 +274,6 @@ class Server:
             self._deadline = now
             if self._fault:
                 self._next_save = self._last_save = now
-
-    def _let_in(self) -> None:
-        """Lets connections in."""
-        for listener in self._listeners:
-            self._selector.register(listener.socket, selectors.EVENT_READ, listener)
 
     def _stop(self) -> None:
         """Stops accepting connections."""
@@ -354,8 +349,8 @@ def raise_file_limit(sessions: int) -> None:
 def serve(words: argparse.Namespace) -> int:
     """Starts the store, and serves it until the end."""
     exit_at_ending()
-    for number in OTHERS:
-        signal.signal(number, signal.SIG_IGN)
+    for ignored in OTHERS:
+        signal.signal(ignored, signal.SIG_IGN)
     if words.socket and words.save and os.path.realpath(os.path.dirname(words.socket) or ".") == os.path.realpath(words.save):
         # the folder of a socket and that of a save are locked
         raise ListenError(f"{words.socket} can't be in the folder of --save")
