@@ -153,7 +153,7 @@ class LogFile:
 
 
 class RedoLog:
-    """A folder that is locked until the process ends, and the log in it.
+    """A folder that is locked until it is closed, and the log in it.
 
         log = RedoLog("folder", print)
         log.restore(store)
@@ -177,8 +177,11 @@ class RedoLog:
         self.fault = self._fault_anew = ""
         """Why the log can't be written, or not anew, as long as it can't: what was reported. Otherwise empty."""
         try:
-            self._folder = open_folder(path)
-            self._open()
+            with contextlib.ExitStack() as failing:
+                self._folder = open_folder(path)
+                failing.callback(os.close, self._folder.number)
+                self._open()
+                failing.pop_all()
         except FolderInUse as error:
             raise SaveError(str(error)) from None
         except (OSError, MemoryError) as error:
@@ -269,6 +272,14 @@ class RedoLog:
                 raise SaveError(f"the store can't be saved in {self._folder.path}, which has what was saved before: {reason_of(error)}") from None
             self._is_finished = True
             return counts_text(counts)
+
+    def close(self) -> None:
+        """Unlocks the folder, and saves nothing more. A process that ends does the same."""
+        with self._lock:
+            self._is_finished = True
+            self._drop_new()
+            self._log.close()
+            os.close(self._folder.number)
 
     def _append(self, store: Transfers, tick: Tick) -> Counts:
         """Appends all that was changed until now, and returns what the store had then. A log that was removed, replaced or truncated, or that wasn't restored,

@@ -1,4 +1,5 @@
 """Lines that redo what a store has done, stores that are renewed, and logs of stores in this process."""
+import contextlib
 import io
 import os
 import pickle
@@ -152,7 +153,8 @@ def logs_of_stores():
         store.file(0, b"late")
         found += differences((log.follow(store), False), (is_copy(folder, store, found), True))
         found += differences((log.finish(store), "19 objects and 3 tenants"), (log.follow(store), False))
-        found += differences((raised(RedoLog, folder, told.append), SaveError), (raised(RedoLog, __file__, told.append), SaveError), (told, []))
+        found += differences((raised(RedoLog, folder, told.append), SaveError), (raised(RedoLog, __file__, told.append), SaveError), (log.close(), None))
+        found += differences((raised(RedoLog, folder, told.append), None), (log.follow(store), False), (told, []))
         store.close()
     return found
 
@@ -161,7 +163,8 @@ def is_copy(folder, store, found):
     """Whether a copy of a folder restores what a store has."""
     with tempfile.TemporaryDirectory() as other, Store() as restored:
         shutil.copy(f"{folder}/log", f"{other}/log")
-        found += [] if RedoLog(other, found.append).restore(restored) else ["nothing is restored"]
+        with contextlib.closing(RedoLog(other, found.append)) as log:
+            found += [] if log.restore(restored) else ["nothing is restored"]
         return without_order(state_of(restored)) == without_order(state_of(store))
 
 

@@ -76,8 +76,7 @@ def _logged(program: str, folder: str) -> Iterator[Logged]:
     try:
         store.start(program, 1, 1 << 30)
         log = RedoLog(folder, reported.append)
-        with contextlib.ExitStack() as ending:
-            ending.callback(lambda: os.close(log._folder.number))
+        with contextlib.closing(log):
             log.restore(store)
             yield Logged(store, log, reported)
     finally:

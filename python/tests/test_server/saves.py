@@ -9,15 +9,16 @@ import subprocess
 import sys
 import tempfile
 import time
-from typing import List, Tuple
+from typing import Iterator, List, Tuple
 
 from judging import differences, wait_until
 from lines import SHORTLY
 from running import AS_MODULE, CLEAN, PACKAGE, SECONDS, Client, Running, environment, fails
-from saving import LENGTHS, RUN_SERVER, append_to, content_of, files_in, fill_folder, save_folder, state_at, state_of
+from saving import LENGTHS, append_to, content_of, files_in, fill_folder, save_folder, state_at, state_of
 
 sys.path.insert(1, PACKAGE)
 from b3store.files import lock_folder
+from b3store.redo_log import RedoLog, SaveError
 
 LONG = (5 << 20) + 5
 """The length of an object that the store redoes alone."""
@@ -83,27 +84,14 @@ def restores_all(program: str) -> List[str]:
         return found + differences((state_at(program, folder), before), (os.stat(folder).st_mode & 0o777, 0o700))
 
 
-def saves_what_was_answered(program: str) -> List[str]:
-    """The connection of a client that doesn't finish in time is ended: what was answered is saved, its open uploads are not, and an incomplete command isn't run."""
-    with save_folder() as folder, Running(program, "--save", folder, "--grace", "0") as server, server.client() as client, server.client() as silent:
-        client.ask("tenant 100000000")
-        address = client.file(bytes(1000))
-        state = state_of(client)
-        client.send(b"begin 0 5\nlimit 0 5")
-        silent.send(f"fetchb 0 {address}\n".encode() * 3000)
-        is_served = wait_until(lambda: server.sessions() == 2)
-        time.sleep(SHORTLY)
-        server.signal()
-        found = differences((is_served, True), (server.status(), 0), (server.reported(), "b3store.server: the server ends while 2 connections are open\n"))
-        return found + differences((state_at(program, folder), state))
-
-
 def saves_while_commands_are_left(program: str) -> List[str]:
-    """A client that sent much ahead and reads nothing is cut: what it sent is executed before the save or never."""
+    """A client that doesn't finish in time is cut: what it sent ahead is executed before the save or never, what was answered is saved, and an incomplete
+    command isn't run."""
     with save_folder() as folder, Running(program, "--save", folder, "--grace", "0") as server, server.client() as client, server.client() as silent:
         client.ask("tenant 100000000")
         addresses = [client.file(content_of(number)) for number in range(2500)]
         long = client.file(bytes(1 << 24))
+        client.send(b"begin 0 5\nlimit 0 5")
         silent.socket.setblocking(False)
         lines = b"".join(f"fetchb 0 {long}\n".encode() * 5 + f"forget 0 {address}\n".encode() for address in reversed(addresses))
         with contextlib.suppress(BlockingIOError):
@@ -116,17 +104,8 @@ def saves_while_commands_are_left(program: str) -> List[str]:
         found += differences((server.status(), 0), (server.reported(), told), (server.left(), []))
         state = state_at(program, folder)
         kept = [row.split()[0].decode() for row in state["list 0"].splitlines()[1:]]
+        found += differences((state["usage 0"].split()[3:], [b"0", b"limit", b"100000000"]), (state["uploads 0"], b"uploads 0\n"))
         return found + differences((kept, addresses[: len(kept) - 1] + [long]), (1 < len(kept), True))
-
-
-def one_server_alone(program: str) -> List[str]:
-    """A second server on the folder ends with a message, also while the first one's clients last."""
-    with save_folder() as folder, Running(program, "--save", folder) as server, server.client() as client:
-        words = ("--program", program, "--socket", f"{server.folder}/other", "--save", folder)
-        wanted = (1, f"b3store.server: {folder} is in use by another server\n")
-        found = differences((fails(*words), wanted), (client.ask("tenants"), b"tenants 0\n"), (fails(*words), wanted))
-        found += differences((os.path.exists(f"{server.folder}/other"), False), (client.ends(), b""), (server.end(), CLEAN))
-        return found + differences((state_at(program, folder), {}))
 
 
 def folders_that_are_changed(program: str) -> List[str]:
@@ -149,55 +128,61 @@ def folders_that_are_changed(program: str) -> List[str]:
             return found + differences((status, 4), (told.count("No such file or directory"), 3), (left, []), (os.path.exists(folder), False))
 
 
-def folders_that_are_none(program: str) -> List[str]:
-    """A folder of something else, a file, and a place where none can be made: a message, and nothing changes."""
-    found = []
-    with save_folder() as folder:
-        words = ("--program", program, "--socket", f"{folder}-socket", "--save")
-        os.mkdir(folder)
-        for name in "notes", "index":
-            with open(os.path.join(folder, name), "wb") as file:
-                file.write(b"kept")
-            before = files_in(folder)
-            wanted = f"b3store.server: {folder} holds '{min(before)}' and no saved store: name a folder that is empty or doesn't exist\n"
-            found += differences((fails(*words, folder), (1, wanted)), (files_in(folder), before))
-        found += differences((fails(*words, f"{folder}/notes"), (1, f"b3store.server: cannot use the folder {folder}/notes: Not a directory\n")))
-        for path, reason in (f"{folder}/notes/a", "Not a directory"), (f"{folder}/none/a", "No such file or directory"), (folder + "/a" * 3000, "File name too long"):
-            found += differences((fails(*words, path), (1, f"b3store.server: cannot use the folder {path}: {reason}\n")))
-        found += differences((fails(*words, "")[0], 2), (files_in(folder), before))
-        with save_folder() as other:
-            told = f"b3store.server: {other}/socket can't be in the folder of --save\n"
-            found += differences((fails("--program", program, "--socket", f"{other}/socket", "--save", other), (1, told)), (os.path.exists(other), False))
-            os.mkdir(other)
-            locked = lock_folder(other)
-            told = f"b3store.server: cannot listen on {other}/socket: its folder is in use by another server or a backup\n"
-            found += differences((fails("--program", program, "--socket", f"{other}/socket"), (1, told)), (os.listdir(other), []))
-            os.close(locked)
-        for make in os.mkfifo, os.mkdir:
-            with save_folder() as other:
-                os.mkdir(other)
-                make(os.path.join(other, "log"))
-                status, told = fails(*words, other)
-                found += differences((status, 1), (told.startswith(f"b3store.server: {other}/log is not a file; "), True))
-        found += differences((fails("--program", f"{folder}/none", "--socket", f"{folder}-socket", "--save", f"{folder}-new")[0], 1))
-        return found + differences((state_at(program, f"{folder}-new"), {}))
+def _fault(path: str) -> str:
+    """Why a folder can't be used."""
+    try:
+        RedoLog(path, print).close()
+    except SaveError as fault:
+        return str(fault)
+    return ""
 
 
-def folders_of_others(program: str) -> List[str]:
-    """A folder that belongs to another user, or that others may write to, is refused, and stays as it is."""
-    found = []
-    cases = [(0o775, None, "can be written to by others: chmod go-w {}"), (0o757, None, "can be written to by others: chmod go-w {}")]
+def _unusable(folder: str) -> Iterator[Tuple[str, str]]:
+    """Folders that are none for a log, each after it was made, and what is wrong with it."""
+    unsaved = "and no saved store: name a folder that is empty or doesn't exist"
+    append_to(f"{folder}/notes")
+    yield folder, f"{folder} holds 'notes' {unsaved}"
+    yield f"{folder}/notes", f"cannot use the folder {folder}/notes: Not a directory"
+    yield f"{folder}/notes/a", f"cannot use the folder {folder}/notes/a: Not a directory"
+    yield f"{folder}/none/a", f"cannot use the folder {folder}/none/a: No such file or directory"
+    yield f"{folder}" + "/a" * 3000, f"cannot use the folder {folder}{'/a' * 3000}: File name too long"
+    for make in os.mkfifo, os.mkdir, lambda path: os.symlink(f"{folder}/notes", path):
+        make(f"{folder}/log")
+        yield folder, f"{folder}/log is not a file; nothing was changed"
+        os.rename(f"{folder}/log", f"{folder}/other-{make}")
+    append_to(f"{folder}/log")
+    for mode in 0o775, 0o757:
+        os.chmod(folder, mode)
+        yield folder, f"{folder} can be written to by others: chmod go-w {folder}"
+    os.chmod(folder, 0o700)
     if os.geteuid() == 0:
-        cases.append((0o700, 1234, "belongs to another user: name a folder of your own"))
-    for mode, owner, wanted in cases:
-        with save_folder() as folder:
-            fill_folder(program, folder)
-            os.chmod(folder, mode)
-            if owner is not None:
-                os.chown(folder, owner, -1)
-            files, told = files_in(folder), f"b3store.server: {folder} {wanted.format(folder)}\n"
-            found += differences((fails("--program", program, "--socket", f"{folder}-socket", "--save", folder), (1, told)), (files_in(folder), files))
-    return found
+        os.chown(folder, 1234, -1)
+        yield folder, f"{folder} belongs to another user: name a folder of your own"
+        os.chown(folder, 0, -1)
+    locked = lock_folder(folder)
+    yield folder, f"{folder} is in use by another server"
+    os.close(locked)
+
+
+def folders_that_are_none(program: str) -> List[str]:
+    """A folder of something else or of others, a file, and a place where none can be made: a message, status 1, and nothing changes."""
+    with save_folder() as folder:
+        os.mkdir(folder, 0o700)
+        found = []
+        for path, wanted in _unusable(folder):
+            before = sorted(os.listdir(folder))
+            found += differences((_fault(path), wanted), (sorted(os.listdir(folder)), before))
+        append_to(f"{folder}/log")
+        os.mkfifo(f"{folder}/pipe")
+        told = f"b3store.server: {folder}/socket can't be in the folder of --save\n"
+        found += differences((fails("--program", program, "--socket", f"{folder}/socket", "--save", folder), (1, told)))
+        locked = lock_folder(folder)
+        told = f"b3store.server: cannot listen on {folder}/socket: its folder is in use by another server or a backup\n"
+        found += differences((fails("--program", program, "--socket", f"{folder}/socket"), (1, told)))
+        told = f"b3store.server: {folder} is in use by another server\n"
+        found += differences((fails("--program", program, "--socket", f"{folder}-socket", "--save", folder), (1, told)), (os.path.exists(f"{folder}-socket"), False))
+        os.close(locked)
+        return found + differences((fails("--program", f"{folder}/none", "--socket", f"{folder}-socket", "--save", f"{folder}-new")[0], 1), (_fault(f"{folder}-new"), ""))
 
 
 def links_in_a_folder(program: str) -> List[str]:
@@ -216,10 +201,6 @@ def links_in_a_folder(program: str) -> List[str]:
             os.unlink(f"{folder}/log")
             os.symlink(other, f"{folder}/log")
             found = differences((client.ends(), b""), (server.end(), CLEAN), (state_at(program, folder), state))
-        os.rename(f"{folder}/log", f"{folder}-file")
-        os.symlink(f"{folder}-file", f"{folder}/log")
-        status, told = fails("--program", program, "--socket", f"{folder}-socket", "--save", folder)
-        found += differences((status, 1), (f"{folder}/log is not a file; nothing was changed" in told, True))
         with open(other, "rb") as file:
             return found + differences((file.read(), b"another"))
 
@@ -349,12 +330,9 @@ def asks_for_time(program: str) -> List[str]:
 
 SAVES = (
     ("a store that is saved and restored", restores_all),
-    ("a save when clients don't end", saves_what_was_answered),
     ("a save when commands are left", saves_while_commands_are_left),
-    ("two servers on one folder", one_server_alone),
     ("folders that are moved or removed", folders_that_are_changed),
     ("folders that are none for a save", folders_that_are_none),
-    ("folders of others for a save", folders_of_others),
     ("links in the folder of a save", links_in_a_folder),
     ("saves that fail", saves_that_fail),
     ("saves that never succeed", saves_that_never_succeed),
