@@ -142,7 +142,7 @@ def numbered(store: Commands, tenant: int) -> Iterator[Tuple[int, int, ObjectRow
 def move(source: "Transfers", target: "Transfers") -> None:
     """Moves the objects of all tenants to a store that has these tenants, one after the other, in the order in which they were filed."""
     for _, tenant, (address, length) in heapq.merge(*(numbered(source, tenant) for tenant in source.tenants())):
-        target.upload(source.open(tenant, address, 0), tenant, length, address=address)
+        target.upload(source.fetch(tenant, address) if length <= PIECE_LEN else source.open(tenant, address, 0), tenant, length)
         source.forget(tenant, address)
 
 

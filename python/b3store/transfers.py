@@ -347,9 +347,9 @@ def read_parts(file: Any, rooms: List[memoryview], left: Optional[int]) -> List[
     parts: List[memoryview] = []
     for number in range(PARTS_AT_ONCE):
         if number == len(rooms):
-            rooms.append(memoryview(bytearray(PART_LEN)))
+            rooms.append(memoryview(bytearray(PART_LEN if left is None else min(left, PART_LEN))))
         room = rooms[number]
-        wanted = room if left is None else room[: max(0, min(left, room.nbytes))]
+        wanted = room if left is None else room[: max(0, left)]
         count = read_full(file, wanted)
         if count:
             parts.append(room[:count])
