@@ -62,7 +62,11 @@ def files_in(folder: str) -> Dict[str, bytes]:
 
 
 def log_of(folder: str) -> bytes:
-    return files_in(folder).get("log", b"")
+    try:
+        with open(os.path.join(folder, "log"), "rb") as file:
+            return file.read()
+    except FileNotFoundError:
+        return b""
 
 
 def is_logged(folder: str, *contents: bytes) -> bool:
