@@ -5,12 +5,15 @@ So `pip install` works without a network on a machine whose Python has no `wheel
 import base64
 import hashlib
 import os
+import re
 import tarfile
 import zipfile
 from typing import Any, Dict, List, Optional
 
-NAME, VERSION = "b3store", "1.0"
+NAME = "b3store"
 HERE = os.path.dirname(os.path.abspath(__file__))
+with open(os.path.join(HERE, NAME, "__init__.py"), encoding="utf-8") as source:
+    VERSION = re.findall('(?m)^__version__ = "(.*)"$', source.read())[0]
 INFO = f"{NAME}-{VERSION}.dist-info"
 METADATA = f"""\
 Metadata-Version: 2.1

@@ -33,7 +33,7 @@ __all__ = [
     "AsyncStore", "Client", "Counts", "Ended", "Filed", "Held", "LogError", "ObjectPage", "ObjectRow", "OpenUpload", "RedoLog", "Redone", "Refused",
     "SaveError", "Store", "StoreError", "StoredObject", "Totals", "Upload", "Usage", "renew",
 ]
-__version__ = "1.0"
+__version__ = "1.0.0"
 _MODULES = {
     "AsyncStore": "asynchronous", "Client": "client", "LogError": "redo", "RedoLog": "redo_log", "SaveError": "redo_log", "Store": "store",
     "StoredObject": "transfers", "Upload": "transfers", "renew": "redo",
