@@ -62,11 +62,10 @@ def files_in(folder: str) -> Dict[str, bytes]:
 
 
 def log_of(folder: str) -> bytes:
-    try:
-        with open(os.path.join(folder, "log"), "rb") as file:
-            return file.read()
-    except FileNotFoundError:
-        return b""
+    """The bytes of a folder's log; none if there is no log."""
+    with contextlib.suppress(FileNotFoundError), open(f"{folder}/log", "rb") as file:
+        return file.read()
+    return b""
 
 
 def is_logged(folder: str, *contents: bytes) -> bool:
