@@ -104,6 +104,9 @@ def run() -> int:
     parser.add_argument("source", metavar="FROM", help="the socket of the server to copy")
     parser.add_argument("target", metavar="TO", help="the socket of another server; or a folder for a log: one that exists, or a path that ends with /")
     words = parser.parse_args()
+    if os.path.exists(words.target) and os.path.exists(words.source) and os.path.samefile(words.source, words.target):
+        # a copy of itself would grow without end
+        parser.error("FROM and TO are the same")
     log = RedoLog(words.target, report) if words.target.endswith("/") or os.path.isdir(words.target) else None
     journal, told = Journal(), ""
     while True:

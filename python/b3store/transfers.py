@@ -260,8 +260,8 @@ class Transfers(Commands):
         return io.BufferedReader(raw, buffering) if buffering else raw
 
     def run_lines(self, lines: Union[Buffer, BinaryIO]) -> int:
-        """Runs lines that another store has returned for `redo`: bytes, or a file of them that can seek, such as the log of a server. This store must have run
-        the lines of all entries before. Returns how many bytes the lines have, without an incomplete one at the end, which isn't run. Raises LogError for the
+        """Runs lines that another store has returned for `redo`: bytes, or a file of them, from its start on, that can seek. This store must have run the lines
+        of all entries before. Returns how many bytes the lines have, without an incomplete one at the end, which isn't run. Raises LogError for the
         first line that is wrong or refused; up to 39 after it may have been run. A `forget` that is refused with S12 has no effect: `redo` may return such
         ones."""
         return run_lines(self, lines)

@@ -121,6 +121,9 @@ def copies_that_are_refused(program: str) -> List[str]:
         with Following(f"{first.path}-none", second.path) as following:
             found = differences((following.tells(f"b3store: {first.path}-none: no such file or directory; it is tried again\n"), True))
             found += differences((following.ends(signal.SIGINT)[1].count("\n"), 1))
+        with Following(first.path, first.path) as following:
+            status, told = following.ends()
+            found += differences((status, 2), (told.endswith("FROM and TO are the same\n"), True))
         copied.ask("tenant 50")
         copied.file(b"only here")
         state = state_of(copied)
