@@ -320,6 +320,7 @@ class RedoLog:
             if not self._new.extend(store, max(counts.entries, self._log.entry), tick, end):
                 return
             self._new.sync()
+            self._folder.remove(CLEAN)
             os.replace(NEW_LOG, LOG, src_dir_fd=self._folder.number, dst_dir_fd=self._folder.number)
         except BaseException:
             self._drop_new()
@@ -328,7 +329,6 @@ class RedoLog:
         self._min_len = 2 * self._new.length if end < math.inf and 2 * self._new.length > self._log.length else MIN_REPLACED_LEN
         self._log.close()
         self._log, self._new, self._is_folder_synced, self._is_restored = self._new, None, False, True
-        self._folder.remove(CLEAN)
         self._sync_folder()
 
     def _sync_folder(self) -> None:
