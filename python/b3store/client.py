@@ -1,16 +1,23 @@
 """A client of a running server (`python -m b3store.server`)."""
 import array
 import contextlib
+import itertools
 import os
+import queue
 import socket
+import threading
 import time
-from typing import Any, Callable, List, Union
+import weakref
+from typing import Any, Callable, List, Optional, Sequence, TypeVar, Union
 
-from .sessions import READ_LEN, Session, Sessions
+from .sessions import READ_LEN, Session
 from .transfers import Transfers
-from .values import MAX_SESSIONS, Ended, check_number
+from .values import MAX_SESSIONS, Ended, Refused, check_number
 
 Place = Union[str, bytes, "os.PathLike[str]"]
+Value = TypeVar("Value")
+
+INTERRUPTED = Ended("a command was interrupted")
 
 ASK_FOR_PIPES = b"pipes\n"
 """The line that asks a server for the two pipes of a session, and the line that they come with."""
@@ -49,7 +56,7 @@ class PipeSession(Session):
         self._socket.leave(nowhere)
 
 
-class Client(Sessions, Transfers):
+class Client(Transfers):
     """A store that a server shares with many processes.
 
         with Client("/run/b3store/socket") as store:
@@ -63,20 +70,24 @@ class Client(Sessions, Transfers):
 
     def __init__(self, path: Place, *, sessions: int = 1) -> None:
         """Connects to the socket at a path, and waits for a turn. Raises OSError if there is no server, and Ended if it has no turn for this client."""
-        super().__init__()
         count = check_number("sessions", sessions, 1, MAX_SESSIONS)
         self._path = os.fspath(path)
         self._sockets: List[socket.socket] = []
         self._passes_pipes = True
-        opened: List[Session] = []
+        self._all: List[Session] = []
+        self._free: "queue.SimpleQueue[Session]" = queue.SimpleQueue()
+        """Those that no command uses."""
+        self._closing, self._process_id = threading.Lock(), os.getpid()
+        self._fault: Optional[Ended] = None
+        """Why the sessions can't be used any more."""
         try:
             for _ in range(count):
-                opened.append(self._open_session())
+                self._all.append(self._open_session())
         except BaseException:
-            for session in opened:
-                session.close()
+            self._end(self._all)
             raise
-        self._add(opened)
+        self._give_back(self._all)
+        opened.add(self)
 
     @property
     def alive(self) -> bool:
@@ -87,8 +98,9 @@ class Client(Sessions, Transfers):
     def close(self) -> None:
         """Closes the connections, once the commands of other threads are done; at once those of a client that can't be used any more and has no pipes."""
         with self._closing:
-            if self._fault is not None:
-                self._shut_down()
+            for connection in self._sockets if self._fault is not None else []:
+                with contextlib.suppress(OSError):
+                    connection.shutdown(socket.SHUT_RDWR)
             self._with_all(self._free.get, self._end)
 
     def _end(self, sessions: List[Session]) -> None:
@@ -132,14 +144,88 @@ class Client(Sessions, Transfers):
             os.close(end)
         raise self._ended("the server is busy: each of its sessions has a client" if answer == b"busy\n" else f"the server answers {answer[:60]!r}")
 
-    def _shut_down(self) -> None:
-        """Ends the commands that wait."""
-        for connection in self._sockets:
-            with contextlib.suppress(OSError):
-                connection.shutdown(socket.SHUT_RDWR)
-
     def _ended(self, reason: str = "") -> Ended:
+        """Why the sessions can't be used any more."""
         return Ended(reason or f"{os.fsdecode(self._path)} has closed the connection")
+
+    def _why(self) -> Callable[..., Ended]:
+        """`_ended`, for a session, which it doesn't let keep the store: one that is dropped closes its sessions at once."""
+        method = weakref.WeakMethod(self._ended)
+
+        def ended(*words: Any) -> Ended:
+            call = method()
+            return Ended("the store was closed") if call is None else call(*words)
+
+        return ended
+
+    def _with_all(self, get: Callable[[], Session], work: Callable[[List[Session]], Value]) -> Value:
+        """What a function returns for the sessions that `get` takes: all of them, or those until it raises queue.Empty. They are given back in one step."""
+        taken: List[Session] = []
+        giving = map(self._free.put, taken)
+        try:
+            # no loop: from Python 3.12 on, an interrupt at its end would pass by the finally
+            with contextlib.suppress(queue.Empty):
+                self._take(taken, get, len(self._all))
+            return work(taken)
+        finally:
+            list(giving)
+
+    def _give_back(self, sessions: Sequence[Session]) -> None:
+        """Makes sessions free."""
+        for session in sessions:
+            self._free.put(session)
+
+    def _leave(self, nowhere: int) -> None:
+        """Leaves the sessions to the process that opened them. Here, `close` waits for no thread of that one."""
+        for session in self._all:
+            session.leave(nowhere)
+        self._free, self._closing = queue.SimpleQueue(), threading.Lock()
+        self._give_back(self._all)
+
+    @staticmethod
+    def _take(taken: List[Session], get: Callable[[], Session], count: int = 1) -> None:
+        """Takes sessions, and adds them to a list: each in one step, so that no interrupt comes between the two."""
+        taken.extend(itertools.starmap(get, itertools.repeat((), count)))
+
+    def _in_turn(self, work: Callable[[Session], Value]) -> Value:
+        """What a function returns for a free session, which it waits for. Raises Ended if they can't be used any more, or if this process has inherited them:
+        both would read the same answers. The session is given back whenever an interrupt comes: one that comes when a `with` statement calls `__exit__` would
+        keep it."""
+        if os.getpid() != self._process_id:
+            raise Ended("the connection belongs to the process that opened it: after a fork, open another one")
+        taken: List[Session] = []
+        is_noted = False
+        try:
+            self._take(taken, self._free.get)
+            if self._fault is not None:
+                raise Ended(*self._fault.args)
+            found = work(taken[0])
+            is_noted = True
+            return found
+        except BaseException as fault:
+            if taken:
+                self._note(fault)
+                is_noted = True
+            raise
+        finally:
+            if taken:
+                # another interrupt may come before the first one is noted
+                if not is_noted and self._fault is None:
+                    self._fault = INTERRUPTED
+                self._free.put(taken[0])
+
+    def _note(self, fault: BaseException) -> None:
+        """Notes what interrupted a command: after anything but a refusal no session is used again. Raises Ended in place of what a wrong answer raised."""
+        if isinstance(fault, Refused):
+            return
+        # what is raised isn't what is kept: the frames of its traceback would keep the store
+        if isinstance(fault, Ended):
+            self._fault = Ended(*fault.args)
+        elif isinstance(fault, (ValueError, TypeError, IndexError)):
+            self._fault = self._ended(f"the store's answer makes no sense: {fault}")
+            raise Ended(*self._fault.args) from None
+        else:
+            self._fault = Ended(f"a command was interrupted by {type(fault).__name__}")
 
 
 def connect(path: Union[str, bytes]) -> socket.socket:
@@ -154,3 +240,18 @@ def connect(path: Union[str, bytes]) -> socket.socket:
         connection.close()
         raise
     return connection
+
+
+opened: "weakref.WeakSet[Client]" = weakref.WeakSet()
+
+
+def leave_all() -> None:
+    """Leaves all clients to the parent of a new process: while another process has copies of them, what the parent closes doesn't end."""
+    with contextlib.suppress(OSError):
+        nowhere = os.open(os.devnull, os.O_RDWR)
+        for client in list(opened):
+            client._leave(nowhere)
+        os.close(nowhere)
+
+
+os.register_at_fork(after_in_child=leave_all)

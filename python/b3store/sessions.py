@@ -1,15 +1,10 @@
-"""Sessions: connections to a store, each used by one thread at a time, and the rule that a broken one is never used again."""
+"""Sessions: connections to a store, each used by one thread at a time."""
 import contextlib
 import fcntl
-import itertools
 import os
-import queue
 import select
 import sys
-import threading
-import time
-import weakref
-from typing import Any, BinaryIO, Callable, List, Optional, Sequence, Tuple, TypeVar, Union
+from typing import Any, BinaryIO, Callable, List, Optional, Tuple, Union
 
 from .values import Buffer, Ended, Refused, parse_number, parse_refusal
 
@@ -22,8 +17,6 @@ MAX_LINE_LEN = 1 << 12
 SET_PIPE_SIZE = 1031
 """The number of F_SETPIPE_SZ, which `fcntl` has from Python 3.10 on."""
 
-Value = TypeVar("Value")
-
 Kinds = Union[str, Tuple[str, ...]]
 """The first word that an answer must have; or several, one of which it must have."""
 
@@ -32,9 +25,6 @@ def set_pipe_size(pipe: Any, size: int) -> None:
     """Sets the capacity of a pipe, if the system allows it."""
     with contextlib.suppress(OSError):
         fcntl.fcntl(pipe, SET_PIPE_SIZE, size)
-
-
-INTERRUPTED = Ended("a command was interrupted")
 
 
 class Session:
@@ -55,15 +45,12 @@ class Session:
     def write(self, *pieces: Buffer) -> None:
         """Writes pieces one after another, in as few system calls as possible: other threads run while one lasts."""
         views = [memoryview(piece) for piece in pieces if len(piece)]
-        try:
-            while views:
-                count = os.writev(self._sending.fileno(), views)
-                while views and count >= views[0].nbytes:
-                    count -= views.pop(0).nbytes
-                if count:
-                    views[0] = views[0][count:]
-        except OSError as fault:
-            raise self._broken(fault) from None
+        while views:
+            count = self._call(os.writev, self._sending.fileno(), views)
+            while views and count >= views[0].nbytes:
+                count -= views.pop(0).nbytes
+            if count:
+                views[0] = views[0][count:]
 
     def ask(self, kinds: Kinds, line: str, content: Buffer = b"") -> List[str]:
         """Sends a command, and returns the words of its answer."""
@@ -100,10 +87,7 @@ class Session:
 
     def text(self) -> str:
         """Reads a line, and returns it without its newline."""
-        try:
-            line = self._reading.readline(MAX_LINE_LEN)
-        except OSError as fault:
-            raise self._broken(fault) from None
+        line = self._call(self._reading.readline, MAX_LINE_LEN)
         if len(line) == MAX_LINE_LEN:
             raise ValueError("a line is too long")
         if not line.endswith(b"\n"):
@@ -115,10 +99,7 @@ class Session:
         count = parse_number(words)
         if count > min(max_len, sys.maxsize):
             raise ValueError(f"{count} bytes instead of {max_len}")
-        try:
-            content = self._reading.read(count)
-        except OSError as fault:
-            raise self._broken(fault) from None
+        content = self._call(self._reading.read, count)
         if len(content) < count:
             raise self._ended()
         return content
@@ -128,11 +109,7 @@ class Session:
         count = parse_number(words)
         if not min_len <= count <= room.nbytes:
             raise ValueError(f"{count} bytes instead of {room.nbytes}")
-        try:
-            got = self._reading.readinto(room[:count])  # type: ignore[attr-defined]
-        except OSError as fault:
-            raise self._broken(fault) from None
-        if got < count:
+        if self._call(self._reading.readinto, room[:count]) < count:  # type: ignore[attr-defined]
             raise self._ended()
         return count
 
@@ -145,9 +122,13 @@ class Session:
             count -= self.content_into([str(piece.nbytes)], piece, piece.nbytes)
             write(piece)
 
-    def _broken(self, fault: OSError) -> Exception:
-        """What to raise for an error at an end: the other side has ended. One without a number isn't the system's: a signal's handler has raised it."""
-        return fault if fault.errno is None else self._ended()
+    def _call(self, call: Callable[..., Any], *words: Any) -> Any:
+        """What a call on an end returns. An error means that the other side has ended. One without a number isn't the system's: a signal's handler has raised
+        it."""
+        try:
+            return call(*words)
+        except OSError as fault:
+            raise fault if fault.errno is None else self._ended() from None
 
     def close(self) -> None:
         """Closes both ends."""
@@ -163,118 +144,3 @@ class Session:
                 os.dup2(nowhere, end.fileno(), False)
         with contextlib.suppress(OSError, ValueError):
             self._reading = self._reading.detach()  # type: ignore[attr-defined]
-
-
-class Sessions:
-    """The sessions of a store. Each command and its answer take a free one, and wait for it if there is none."""
-
-    def __init__(self) -> None:
-        self._free: "queue.SimpleQueue[Session]" = queue.SimpleQueue()
-        self._all: List[Session] = []
-        self._closing = threading.Lock()
-        self._fault: Optional[Ended] = None
-        """Why the sessions can't be used any more."""
-        self._process_id = os.getpid()
-        _opened.add(self)
-
-    def _add(self, sessions: Sequence[Session]) -> None:
-        self._all += sessions
-        self._give_back(sessions)
-
-    def _ended(self, reason: str = "the store has ended") -> Ended:
-        """Why the sessions can't be used any more."""
-        return Ended(reason)
-
-    def _why(self) -> Callable[..., Ended]:
-        """`_ended`, for a session, which it doesn't let keep the store: one that is dropped closes its sessions at once."""
-        method = weakref.WeakMethod(self._ended)
-
-        def ended(*words: Any) -> Ended:
-            call = method()
-            return Ended("the store was closed") if call is None else call(*words)
-
-        return ended
-
-    def _with_all(self, get: Callable[[], Session], work: Callable[[List[Session]], Value]) -> Value:
-        """What a function returns for the sessions that `get` takes: all of them, or those until it raises queue.Empty. They are given back in one step."""
-        taken: List[Session] = []
-        giving = map(self._free.put, taken)
-        try:
-            # no loop: from Python 3.12 on, an interrupt at its end would pass by the finally
-            with contextlib.suppress(queue.Empty):
-                self._take(taken, get, len(self._all))
-            return work(taken)
-        finally:
-            list(giving)
-
-    def _give_back(self, sessions: Sequence[Session]) -> None:
-        """Makes sessions free."""
-        for session in sessions:
-            self._free.put(session)
-
-    def _leave(self, nowhere: int) -> None:
-        """Leaves the sessions to the process that opened them. Here, `close` waits for no thread of that one."""
-        for session in self._all:
-            session.leave(nowhere)
-        self._free, self._closing = queue.SimpleQueue(), threading.Lock()
-        self._give_back(self._all)
-
-    @staticmethod
-    def _take(taken: List[Session], get: Callable[[], Session], count: int = 1) -> None:
-        """Takes sessions, and adds them to a list: each in one step, so that no interrupt comes between the two."""
-        taken.extend(itertools.starmap(get, itertools.repeat((), count)))
-
-    def _in_turn(self, work: Callable[[Session], Value]) -> Value:
-        """What a function returns for a free session, which it waits for. Raises Ended if they can't be used any more, or if this process has inherited them:
-        both would read the same answers. The session is given back whenever an interrupt comes: one that comes when a `with` statement calls `__exit__` would
-        keep it."""
-        if os.getpid() != self._process_id:
-            raise Ended("the connection belongs to the process that opened it: after a fork, open another one")
-        taken: List[Session] = []
-        is_noted = False
-        try:
-            self._take(taken, self._free.get)
-            if self._fault is not None:
-                raise Ended(*self._fault.args)
-            found = work(taken[0])
-            is_noted = True
-            return found
-        except BaseException as fault:
-            if taken:
-                self._note(fault)
-                is_noted = True
-            raise
-        finally:
-            if taken:
-                # another interrupt may come before the first one is noted
-                if not is_noted and self._fault is None:
-                    self._fault = INTERRUPTED
-                self._free.put(taken[0])
-
-    def _note(self, fault: BaseException) -> None:
-        """Notes what interrupted a command: after anything but a refusal no session is used again. Raises Ended in place of what a wrong answer raised."""
-        if isinstance(fault, Refused):
-            return
-        # what is raised isn't what is kept: the frames of its traceback would keep the store
-        if isinstance(fault, Ended):
-            self._fault = Ended(*fault.args)
-        elif isinstance(fault, (ValueError, TypeError, IndexError)):
-            self._fault = self._ended(f"the store's answer makes no sense: {fault}")
-            raise Ended(*self._fault.args) from None
-        else:
-            self._fault = Ended(f"a command was interrupted by {type(fault).__name__}")
-
-
-_opened: "weakref.WeakSet[Sessions]" = weakref.WeakSet()
-
-
-def leave_all() -> None:
-    """Leaves all sessions to the parent of a new process: while another process has copies of them, what the parent closes doesn't end."""
-    with contextlib.suppress(OSError):
-        nowhere = os.open(os.devnull, os.O_RDWR)
-        for sessions in list(_opened):
-            sessions._leave(nowhere)
-        os.close(nowhere)
-
-
-os.register_at_fork(after_in_child=leave_all)
