@@ -9,7 +9,7 @@ import weakref
 from typing import Any, Callable, List, Optional, Tuple, TypeVar
 
 from .library import BOUND, NONE, PROGRESS, SEALED, SIZE, U64, WHY, Handle, Result, address_of, load, new_bytes, refusal_of
-from .sessions import Session
+from .sessions import PIECE_LEN, Session
 from .transfers import Transfers, Upload
 from .values import MAX_UPLOAD_LEN, PART_LEN, Buffer, Ended, Filed, Held, Refused, check_address, check_bytes, check_number, check_room
 
@@ -35,12 +35,37 @@ def loaded() -> Tuple[Any, Any]:
 class Lines(Session):
     """The lines of one turn, and their answers."""
 
-    def __init__(self, run: Callable[[bytes], bytes]) -> None:
+    def __init__(self, run: Callable[[bytes], Any]) -> None:
         self._run, self._ended = run, Ended
 
     def write(self, *pieces: Buffer) -> None:
         """Has the library run lines. Their answers are read next."""
-        self._reading = io.BytesIO(self._run(b"".join(pieces)))
+        self._reading = self._run(b"".join(pieces))
+
+
+class Answers(io.RawIOBase):
+    """Long answers to lines, which the library keeps until they are read."""
+
+    def __init__(self, store: "Store", at: Any) -> None:
+        super().__init__()
+        self._store, self._handle, self._offset = store, at, 0
+
+    def readable(self) -> bool:
+        """True."""
+        return True
+
+    def readinto(self, room: Any) -> int:
+        """Reads into a buffer."""
+        view = check_room(room)
+        count = self._store._copy(self._handle, self._offset, view.nbytes, ctypes.c_void_p(address_of(view)))[1]
+        self._offset += count
+        return count
+
+    def close(self) -> None:
+        """Frees the answers."""
+        if not self.closed:
+            self._store._small.b3store_close(self._handle)
+        super().close()
 
 
 class Store(Transfers):
@@ -190,15 +215,19 @@ class Store(Transfers):
     def _in_turn(self, work: Callable[[Session], Value]) -> Value:
         return work(Lines(self._run))
 
-    def _run(self, lines: bytes) -> bytes:
-        """The answers to lines."""
+    def _run(self, lines: bytes) -> Any:
+        """A file of the answers to lines."""
         at, close, calls = ctypes.byref(Handle()), self._small.b3store_close, self._library if lines.startswith(LONG) else self._small
         try:
             self._call(calls.b3store_lines, lines, SIZE(len(lines)), at, self._work_at)
-            answers: bytes = self._copy(at, 0, NONE)[0]
+            content, count = self._copy(at, 0, PIECE_LEN)
+            if count < PIECE_LEN:
+                return io.BytesIO(content)
+            answers, at = io.BufferedReader(Answers(self, at), PIECE_LEN), None
             return answers
         finally:
-            close(at)
+            if at is not None:
+                close(at)
 
 
 opened: "weakref.WeakSet[Store]" = weakref.WeakSet()
