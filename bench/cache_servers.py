@@ -1,6 +1,7 @@
-"""Servers in processes of their own, which the benchmarks compare. `our_cache`, `nginx` and `redis` start one in a folder, and yield its port."""
+"""Servers in processes of their own, which the benchmarks compare. `our_cache`, `four_caches`, `nginx` and `redis` start one in a folder, and yield its port."""
 import contextlib
 import os
+import re
 import socket
 import subprocess
 import sys
@@ -63,13 +64,40 @@ def running(words, **how):
 
 @contextlib.contextmanager
 def our_cache(place):
-    """examples/cache_server.py. The port."""
-    words = [sys.executable, os.path.join(TOP, "examples", "cache_server.py"), os.path.join(place, "cache"), "--port", "0"]
-    with running(words, stdout=subprocess.PIPE) as server:
-        line = server.stdout.readline().decode()
-        if "port " not in line:
-            sys.exit("cache_server.py doesn't start")
-        yield int(line.split("port ")[1].split(",")[0])
+    """examples/cache.py. The port."""
+    os.makedirs(place, exist_ok=True)
+    words = [sys.executable, os.path.join(TOP, "examples", "cache.py"), os.path.join(place, "cache"), "--port", "0"]
+    with running(words, stderr=subprocess.PIPE) as server:
+        port, loaded = (server.stderr.readline().decode() for _ in range(2))
+        if "loaded" not in loaded:
+            sys.exit(f"cache.py doesn't start: {port}")
+        yield int(port.split()[-1])
+
+
+@contextlib.contextmanager
+def four_caches(place):
+    """Four caches behind nginx. The port."""
+    with contextlib.ExitStack() as ending:
+        ports = [ending.enter_context(our_cache(os.path.join(place, str(number)))) for number in range(4)]
+        port = free_port()
+        ending.enter_context(running(front_words(os.path.join(place, "nginx"), port, ports)))
+        wait_for(port)
+        yield port
+
+
+def front_words(place, port, ports):
+    """The command for nginx with the configuration of share/ for caches at some ports, which listens on a port. It writes files in a folder, which it makes."""
+    with open(os.path.join(TOP, "share", "b3store-caches.conf"), encoding="ascii") as file:
+        text = file.read()
+    servers = re.findall("    server 127.*\n", text)
+    text = text.replace("".join(servers), "".join(re.sub(":[0-9]+", f":{port}", servers[0]) for port in ports)).replace("127.0.0.1:8080", f"127.0.0.1:{port}")
+    user = "user root;\n" if os.geteuid() == 0 else ""
+    paths = "".join(f"{name}_temp_path body;\n" for name in ("client_body", "proxy", "fastcgi", "uwsgi", "scgi"))
+    os.makedirs(place, exist_ok=True)
+    path = os.path.join(place, "nginx.conf")
+    with open(path, "w", encoding="ascii") as file:
+        file.write(f"daemon off;\n{user}worker_processes 1;\npid nginx.pid;\nevents {{}}\nhttp {{\naccess_log off;\n{paths}{text}}}\n")
+    return ["nginx", "-p", place, "-c", path, "-e", os.path.join(place, "errors")]
 
 
 def bare(length):

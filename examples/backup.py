@@ -1,52 +1,33 @@
 #!/usr/bin/env python3
-"""Backs up a folder into a repository, and restores it, using a store (docs/LIBRARY.md).
+"""Backs up folders into a repository, from which each of their snapshots can be restored.
 
-    backup.py save [--all] FOLDER REPOSITORY         save what is in FOLDER, and print the backup's address
-    backup.py restore REPOSITORY ADDRESS FOLDER      restore a backup into FOLDER, without overwriting anything
-    backup.py check REPOSITORY                       compare each object with its address, and print which backups can't be restored
+    backup.py save [--exclude PATTERN].. [--all] REPOSITORY FOLDER    save what is in FOLDER, and print the snapshot's address
+    backup.py list REPOSITORY [SNAPSHOT]                              list the snapshots, or the paths of one
+    backup.py restore REPOSITORY SNAPSHOT FOLDER [PATH]               restore a snapshot, or one path of it, into FOLDER
+    backup.py check [--program PROGRAM] REPOSITORY                    hash all objects again, and print what can't be restored
+    backup.py forget REPOSITORY [SNAPSHOT]..                          remove snapshots, and what no other one needs
 
-A repository is a folder. Its folder `packs` has objects, each named by its BLAKE3 hash, which is its address; its file `backups` has a line for each backup.
-Files are split into pieces by their content, and a piece is kept once, however many files and backups have it; so bytes put in front of a file make only one
-new piece. A backup is a list of names and pieces, which is kept in pieces too. A repository of an older version, with a file objects/AA/ADDRESS for each
-object, is read too, and its new objects are kept in packs.
+A SNAPSHOT is an address, its first digits, or `latest`. A PATTERN is for names, as `*.o`, or, with a slash, for paths below FOLDER, as `build/*`.
 
-A file is not read again if its length, mode, owner, times and number are those in the last backup of its folder and its pieces are there. One of the times is
-that of the last change of anything, which no program can set: so a file with other content is read, whatever its length and time are. With `--all`, every file
-is read, and the objects that are there are compared with it. If a file's length or time changes while it is read, what was read is saved, which may be a state
-that the file never had; that is reported. Of what a file has grown meanwhile, about 16 MiB are read. All files are written under other names, synced, and then
-renamed; a backup is recorded last. So a save that is killed changes no earlier backup. The next save uses or removes what it left. Only one save can use a
-repository at a time.
+A repository is a folder. Its files NUMBER.log are logs that redo a store (docs/COMMANDS.md): `b3store serve < 000001.log` files their objects. An object is a part
+of a file, of 1 MiB, the list of what is in a folder, or a snapshot; the last two are JSON. The file `snapshots` has the addresses of the snapshots. A file that has
+changed adds the parts that are new: all of them, if bytes are put in front of it. A part that is there already is compared, and added again if that is damaged.
 
-`check` reads everything. It prints each object that is missing, truncated or altered, with its pack, and each file that a backup can't restore. If only an
-index is missing or wrong, everything can be restored, and the next save writes the index again. A wrong object is written again by `save --all` of a folder
-that has the same content.
+Files, folders, links and hard links are saved, with mode, owner, group and time. Parts of zeros become holes. Extended attributes are not saved, which is reported. If
+there is an access list, the mode is saved without the bits of the group and of others, and the status is 1. Pipes, devices and sockets are reported and left out. A
+file isn't read again if its number, length and times are those of the last snapshot of FOLDER; with --all it is.
 
-It keeps files, folders, links and hard links, with times, modes, owners, groups, extended attributes and access lists. An attribute that can't be restored is
-reported on standard error; if it is an access list, the mode gives no one more than the list did. If an owner can't be restored, for example by a user other
-than root, that is reported, and no setuid or setgid bit is set. A file that can't be restored whole is reported, and isn't left there in part, unless the
-restore is killed. If its pieces are whole but don't have the length in the backup's list, it is restored from them and reported. A folder that is already there
-keeps its own owner, mode and time. It doesn't keep holes in files. Anything else (a pipe, a device, a socket) is reported and left out. A repository that is in
-FOLDER is left out too: that is reported, but doesn't change the status. It doesn't compress or encrypt, and removes no backups.
+`restore` writes each file under another name first, leaves alone what is there already, and reports what differs: after an interrupt it can be run again. No link
+in FOLDER is followed. A new folder has the mode 1700 until it is complete.
 
-`save` and `restore` open each folder from the one that it is in. So if someone replaces a folder by a link meanwhile, nothing is read or written where the
-link leads, and what is in the folder is reported. What takes the place of a file or a link while it is restored keeps its owner, mode and time; so does what
-takes the place of a folder, unless it is an empty folder. Links get theirs through /proc.
-
-What it writes is readable only by the user who runs it: the files of a repository, and each restored file and folder until it has its owner and mode.
-
-The store computes the address of each piece, and compares what is read from the repository with it. It holds up to `--memory` bytes; beyond that it forgets
-the oldest objects. Besides these bytes, it and this program take about 300 bytes for each piece that a run saves or reads, since the store's journal only
-grows, 700 for each piece in the repository, 600 for each object that is held, 1.5 KB for each path in the backup, and tens of megabytes for pieces that wait to
-be written.
-
-The status is 0 if all was saved, restored or correct; 1 if something was not, which is reported, or if it is out of memory or can't find the library
-libb3store; 2 for a usage error; 130 after Ctrl-C.
+While a save or a forget uses a repository, no other command does. A save that is killed changes no snapshot. `check` gives each log to the program b3store, which
+needs as much memory: 64 MiB, or one object. Each command takes about 300 bytes of memory for each object.
 """
 import os
 import sys
 
 sys.path.insert(0, os.path.join(os.path.dirname(os.path.dirname(os.path.realpath(__file__))), "python"))
-from b3store.programs import end_at_once, raise_again
+from b3store.programs import end_at_once
 
 if __name__ == "__main__":
     end_at_once()
@@ -56,466 +37,496 @@ import collections
 import contextlib
 import errno
 import fcntl
+import fnmatch
+import json
 import re
-import signal
 import stat
-import struct
+import subprocess
 import time
 
-from b3store import MAX_LIMIT, Refused, Store
-from b3store.console import drop_output, error_text, fault_text, one_line, open_standard_files, show, written
-from backup_check import check
-from backup_packs import WriteFailed
-from backup_repository import ADDRESS, ITSELF, MORE, Damaged, Repository, length_fault, line_fault, path_of, quoted, unquoted
-from backup_tree import Tree, check_new, new_folder
+from b3store import MAX_LIMIT, Store, StoreError
+from b3store.console import count_text, error_text, finish, one_line
+from b3store.files import checked_line, checked_text, create_anew, replace_file
 
-MIN_MEMORY = 1 << 23
-"""The least `--memory`."""
-SECONDS_FOR_LEASE = 5
-"""How long a program may take to give a lease on a file back."""
-SECONDS_TO_OTHER_TIME = 0.02
-"""How long after a write the next one may leave a file's time as it is: systems count these times in steps of up to 10 ms."""
-IS_REPOSITORY = "it is the repository"
-"""Why a folder is left out, which is no fault."""
-REPLACED = "another file has taken its place while it was saved"
-ACCESS_LIST, USER, OWN_GROUP, GROUP = "system.posix_acl_access", 2, 4, 8
-"""An access list, and the numbers of some of its entries: those of a user, of the file's group and of another group."""
-NOT_ALLOWED = {errno.EPERM, errno.EACCES, errno.EINVAL, errno.ENOSYS, errno.ENOTSUP}
-"""The errors of giving a file to an owner where that isn't possible: EINVAL if a container doesn't have the owner."""
-PRIVATE = 0o077
-"""The umask: other users can't read what is written."""
-EXAMPLE = """\
-example:
-  $ backup.py save ~/papers /mnt/disk/repository
-  files 120 folders 7 links 0
-  new objects 143 bytes 81920311 known objects 0 bytes 0
-  backup 6437b3ac38465133ffb63b75273a8db548c558465d79db03fd359c6cd5bd9d85
-  $ backup.py check /mnt/disk/repository
-  objects 143 wrong 0
-  backups 1 broken 0
-  $ backup.py restore /mnt/disk/repository 6437b3ac38465133ffb63b75273a8db548c558465d79db03fd359c6cd5bd9d85 ~/restored
+try:
+    from b3store.hashing import blake3
+except ImportError as error:
+    sys.exit(f"b3store: {error}")
 
-exit status: 0 all was saved, restored or correct; 1 something was not; 2 usage error
-"""
+PART, MAX_LOG_LEN, MAX_LINE, MAX_DEPTH, NEW_FOLDER = 1 << 20, 1 << 26, 128, 400, 0o1700
+LINE = re.compile(rb"(?:tenant [0-9]{1,20}|fileas 0 ([0-9a-f]{64}) ([0-9]{1,14}))\n")
+LOG, ADDRESS, SNAPSHOTS = re.compile("[0-9]{6}[.]log"), re.compile("[0-9a-f]{64}"), "snapshots"
+NEW_LOG, TENANT = "log.new", 0
+KINDS = {stat.S_IFREG: "file", stat.S_IFDIR: "folder", stat.S_IFLNK: "link"}
+CLOCK_STEP = 10**9
+"""For so many nanoseconds after a change, another one may leave a file's time as it is."""
 
 
-def entries_of(tree, repository):
-    """Yields the paths below a tree's folder, in the order of their names, each after the folder that it is in, with its status and None, or with None and why
-    it has none; and a folder that can't be listed once more, with the reason. The folder of the repository, whose status is given, has only a reason."""
-    waiting = tree.listed("", os.fstat(tree.top))
-    while waiting:
-        path = waiting.pop()
-        status, fault = status_in(tree, path, repository)
-        yield path, status, fault
-        if status is not None and stat.S_ISDIR(status.st_mode):
-            try:
-                waiting += tree.listed(path, status)
-            except OSError as error:
-                yield path, None, error_text(error)
+class Fault(StoreError):
+    """Why a command can't go on, or an object can't be used."""
 
 
-def status_in(tree, path, repository):
-    """The status of what is at a path and None, or None and why it isn't saved."""
-    try:
-        status = tree.status(path)
-    except OSError as fault:
-        return None, error_text(fault)
-    return (None, IS_REPOSITORY) if os.path.samestat(status, repository) else (status, None)
+class Repository:
+    """The logs and snapshots of a folder, which is locked until the process ends."""
 
-
-def opened(folder, name, status):
-    """Opens a regular file of this status in an open folder. Raises OSError if another one has taken its place: a link is not followed, and a pipe not waited
-    for. Another program that has a lease on the file has some time to give it back."""
-    end = time.monotonic() + SECONDS_FOR_LEASE
-    while True:
+    def __init__(self, path, lock):
+        """Opens a repository, and reads where its objects are. Raises OSError, and Fault if another command has it locked."""
+        self.path, self.folder, self.status = path, os.open(path, os.O_RDONLY | os.O_DIRECTORY), 0
         try:
-            file = open(name, "rb", opener=lambda name, flags: os.open(name, flags | os.O_NOFOLLOW | os.O_NONBLOCK, dir_fd=folder))
-            break
+            fcntl.flock(self.folder, lock | fcntl.LOCK_NB)
         except BlockingIOError:
-            if time.monotonic() > end:
-                raise
-            time.sleep(0.05)
-    if not os.path.samestat(os.fstat(file.fileno()), status):
-        file.close()
-        raise OSError(REPLACED)
-    return file
+            raise Fault(f"{path} is in use by another command") from None
+        self.logs, self.places, self.store, self.new = {}, {}, None, []
+        """The length of each log; the log, the offset and the length of each object; and the store of new objects that are in no log, and the lengths of all new ones."""
+        for name in sorted(filter(LOG.fullmatch, os.listdir(self.folder))):
+            self.read_log(name)
+        self.lines = []
+        with contextlib.suppress(FileNotFoundError), self.open(SNAPSHOTS) as file:
+            self.lines = [line.rstrip(b"\n") for line in file]
+        self.snapshots = [text for text in map(checked_text, self.lines) if text and ADDRESS.fullmatch(text)]
+        if len(self.snapshots) < len(self.lines):
+            self.report(f"{path}/{SNAPSHOTS} has {count_text(len(self.lines) - len(self.snapshots), 'damaged line')}")
+
+    def report(self, text, status=1):
+        """Prints what wasn't done, or isn't as it should be."""
+        print(one_line(text), flush=True)
+        self.status = max(self.status, status)
+
+    def open(self, name, mode="rb"):
+        """Opens a file of the folder. No link is followed, and no pipe is waited for."""
+        return open(name, mode, opener=lambda name, flags: os.open(name, flags | os.O_NOFOLLOW | os.O_NONBLOCK, 0o600, dir_fd=self.folder))
+
+    def read_log(self, name):
+        """Notes where the objects of a log are."""
+        with self.open(name) as file:
+            self.logs[name], at = os.fstat(file.fileno()).st_size, 0
+            while at < self.logs[name]:
+                file.seek(at)
+                line = file.readline(MAX_LINE)
+                found, start = LINE.fullmatch(line), at + len(line)
+                at = start + int(found[2] or 0) if found else self.logs[name] + 1
+                if at > self.logs[name]:
+                    self.report(f"{self.path}/{name} is damaged: it has no more objects from byte {start - len(line)} on")
+                elif found[1]:
+                    self.places[found[1].decode()] = name, start, at - start
+
+    def find(self, word):
+        """The address of the snapshot that a word of the command line names."""
+        found = self.snapshots[-1:] if word == "latest" else sorted({address for address in self.snapshots if address.startswith(word)})
+        if len(found) != 1:
+            raise Fault(f"{self.path} has {'several snapshots' if found else 'no snapshot'} {word}")
+        return found[0]
+
+    def read(self, address):
+        """The content of an object. Raises Fault if the repository doesn't have it any more."""
+        if address not in self.places:
+            raise Fault(f"object {address} is missing")
+        name, offset, length = self.places[address]
+        with self.open(name) as file:
+            file.seek(offset)
+            content = file.read(length)
+        if blake3(content).hexdigest() != address:
+            raise Fault(f"object {address} in {name} is damaged")
+        return content
+
+    def value(self, address, is_right):
+        """The value of an object in JSON. Raises Fault if it isn't what a save has made."""
+        with contextlib.suppress(LookupError, TypeError, ValueError, RecursionError):
+            value = json.loads(self.read(address))
+            if is_right(value):
+                return value
+        raise Fault(f"object {address} is no list or snapshot")
+
+    def snapshot(self, address):
+        """The value of a snapshot: its time, the path of the folder, and the entry of the folder."""
+        return self.value(address, lambda value: type(value["time"]) is float and type(value["path"]) is str and is_entry(value["top"], "folder"))
+
+    def entries(self, folder):
+        """The entries of what is in a folder, which is given by its own entry."""
+        return self.value(folder["list"], lambda value: type(value) is list and all(is_entry(entry, entry["kind"]) for entry in value))
+
+    def paths(self, folder, seen=(), path=""):
+        """Yields the path and the entry of all that is below a folder, except of what is in lists that were seen."""
+        for entry in self.entries(folder) if folder["list"] not in seen else ():
+            below = os.path.join(path, entry["name"])
+            yield below, entry
+            if entry["kind"] == "folder":
+                yield from self.paths(entry, seen, below)
+
+    def keep_value(self, value):
+        return self.keep(json.dumps(value, separators=(",", ":")).encode())
+
+    def keep(self, content):
+        """Keeps content unless it is there, and returns its address."""
+        address = blake3(content).hexdigest()
+        try:
+            if self.store is None or self.store.has(TENANT, address) is None:
+                self.read(address)
+        except Fault:
+            if self.store is None:
+                self.store = Store()
+                self.store.tenant(MAX_LIMIT)
+            self.store.file(TENANT, content)
+            self.new.append(len(content))
+            if self.store.stat().bytes >= MAX_LOG_LEN:
+                self.write_log()
+        return address
+
+    def write_log(self):
+        """Writes what redoes the store of new objects to a new log, which gets its name when it is complete."""
+        if self.store is not None:
+            name, at = f"{int(max(self.logs, default='000000.log')[:-4]) + 1:06}.log", 0
+            with create_anew(self.folder, NEW_LOG) as file:
+                while at < self.store.counts().entries:
+                    at, lines = self.store.redo(at)
+                    file.write(lines)
+                file.flush()
+                os.fsync(file.fileno())
+            os.rename(NEW_LOG, name, src_dir_fd=self.folder, dst_dir_fd=self.folder)
+            os.fsync(self.folder)
+            self.read_log(name)
+            self.store = self.store.close()
+
+    def set_snapshots(self, lines):
+        self.write_log()
+        replace_file(self.folder, SNAPSHOTS, lines)
 
 
-def attributes_of(place):
-    """The words of a line for the extended attributes of what is open, its access lists among them. `place` is its descriptor, or the path of that."""
-    try:
-        return [f"{quoted(name)}={os.getxattr(place, name).hex()}" for name in sorted(os.listxattr(place))]
-    except OSError as fault:
-        if fault.errno == errno.ENOTSUP:
+def is_entry(entry, kind):
+    """Whether a value is an entry of this kind, with what is needed to restore it. May raise what a value of another type raises."""
+    name, numbers = entry["name"], [entry[field] for field in ("mode", "uid", "gid", "size", "mtime")]
+    is_sound = os.fsencode(name) not in (b"", b".", b"..") and not {"/", "\0"}.intersection(name) and {*map(type, numbers)} == {int}
+    if not is_sound or entry["kind"] != kind or min(numbers[:4]) < 0 or max(numbers[:3]) >= (1 << 32) - 1 or max(map(abs, numbers)) >= 1 << 63:
+        return False
+    if kind == "file":
+        return all(type(part) is int and part > 0 or ADDRESS.fullmatch(part) for part in entry["parts"])
+    return bool(ADDRESS.fullmatch(entry["list"])) if kind == "folder" else kind == "link" and b"\0" not in os.fsencode(entry["target"])
+
+
+@contextlib.contextmanager
+def inside(name, flags=os.O_NOFOLLOW):
+    """Lets the process work in a folder, of which it gives a descriptor, and then where it was before. Raises OSError."""
+    with contextlib.ExitStack() as ending:
+        numbers = []
+        for path, how in (".", os.O_PATH), (name, os.O_RDONLY | os.O_DIRECTORY | flags):
+            numbers.append(os.open(path, how))
+            ending.callback(os.close, numbers[-1])
+        ending.callback(os.fchdir, numbers[0])
+        os.fchdir(numbers[1])
+        yield numbers[1]
+
+
+def opened(name, mode="rb"):
+    """Opens a file of the current folder, without a buffer. No link is followed, and no pipe is waited for."""
+    return open(name, mode, 0, opener=lambda name, flags: os.open(name, flags | os.O_NOFOLLOW | os.O_NONBLOCK, 0o600))
+
+
+def parts_of(file, size):
+    """Yields the parts of a file that is open without a buffer: bytes, or in place of parts that are zeros the number of these."""
+    at = zeros = 0
+    while at < size:
+        content = os.pread(file.fileno(), min(PART, size - at), at)
+        if not content:
+            break
+        if content.strip(b"\0"):
+            yield from filter(None, [zeros, content])
+            zeros, at = 0, at + PART
+            continue
+        try:
+            # the holes that follow need not be read
+            data = file.seek(at, os.SEEK_DATA)
+        except OSError as error:
+            data = size + PART - 1 if error.errno == errno.ENXIO else at
+        count = max(1, (data - at) // PART)
+        zeros, at = zeros + count, at + count * PART
+    if zeros:
+        yield zeros
+
+
+def facts(name, kind, status):
+    """The fields that all entries have."""
+    mode = stat.S_IMODE(status.st_mode)
+    return {"name": name, "kind": kind, "mode": mode, "uid": status.st_uid, "gid": status.st_gid, "mtime": status.st_mtime_ns, "size": status.st_size}
+
+
+class Backup(Repository):
+    """A repository, and a folder that is saved or restored by functions of this class, which work in the current folder."""
+
+    def __init__(self, options):
+        super().__init__(options.repository, fcntl.LOCK_EX if options.work in (Backup.save, Backup.forget) else fcntl.LOCK_SH)
+        self.options, self.start, self.counts, self.unsaved = options, time.time_ns(), collections.Counter(), []
+        """The number of entries of each kind that were saved, and the paths with attributes that weren't."""
+        self.top, self.foreign, self.linked = None, 0, {}
+        """The descriptor of the folder to restore into; how many owners couldn't be set; and the path and status of the first name of each file that has several."""
+
+    def save(self):
+        place, known = os.path.abspath(self.options.folder), {}
+        for address in self.snapshots:
+            with contextlib.suppress(Fault):
+                snapshot = self.snapshot(address)
+                known = snapshot["top"] if snapshot["path"] == place else known
+        with inside(self.options.folder, 0) as number:
+            if os.path.samestat(os.fstat(number), os.fstat(self.folder)):
+                raise Fault(f"{self.options.folder} is the repository")
+            top = {**self.facts("top", "folder", number, "."), "list": self.save_list("", known)}
+        address = self.keep_value({"time": time.time(), "path": place, "top": top})
+        self.set_snapshots([*(line + b"\n" for line in self.lines), checked_line(address)])
+        if self.unsaved:
+            self.report(f"not saved: the extended attributes of {count_text(len(self.unsaved), 'path')}, as of {self.unsaved[0]}", 0)
+        print(", ".join(count_text(self.counts[kind], kind) for kind in KINDS.values()))
+        print(f"{count_text(len(self.new), 'new object')}, {count_text(sum(self.new), 'byte')}\nsnapshot {address}")
+
+    def save_list(self, path, known):
+        """Keeps the list of what is in the current folder, and returns its address. `known` is the folder's entry in the last snapshot."""
+        if path.count("/") > MAX_DEPTH:
+            raise OSError("the folders are nested too deeply")
+        before, found = {}, []
+        with contextlib.suppress(Fault, LookupError):
+            before = {entry["name"]: entry for entry in self.entries(known)}
+        for name in sorted(os.listdir(".")):
+            below = os.path.join(path, name)
+            if not any(fnmatch.fnmatchcase(below if "/" in pattern else name, pattern) for pattern in self.options.exclude):
+                try:
+                    found += self.save_entry(name, below, before.get(name, {}))
+                except OSError as error:
+                    self.report(f"left out: {below}: {error_text(error)}")
+        self.counts.update(entry["kind"] for entry in found)
+        return self.keep_value(found)
+
+    def save_entry(self, name, path, known):
+        """The entry of a name in the current folder, in a list; or an empty list for what isn't saved. Raises OSError."""
+        status = os.lstat(name)
+        kind = KINDS.get(stat.S_IFMT(status.st_mode))
+        if kind is None or os.path.samestat(status, os.fstat(self.folder)):
+            self.report(f"left out: {path}: it is {'the repository' if kind else 'a pipe, a device or a socket'}", 0 if kind else 1)
             return []
-        raise
+        if kind == "link":
+            return [{**facts(name, kind, status), "target": os.readlink(name)}]
+        if kind == "folder":
+            with inside(name) as number:
+                return [{**self.facts(name, kind, number, path), "list": self.save_list(path, known)}]
+        with opened(name) as file:
+            return [{**self.facts(name, kind, file.fileno(), path), **self.save_parts(file, path, known)}]
 
+    def facts(self, name, kind, number, path):
+        """The same as `facts` of what is open. Notes attributes that aren't saved. Without its access list, the mode may give no one more."""
+        entry, names = facts(name, kind, os.fstat(number)), set()
+        with contextlib.suppress(OSError):
+            names = {*os.listxattr(number)} - {"security.selinux"}
+        self.unsaved += [path] if names else []
+        if "system.posix_acl_access" in names:
+            self.report(f"saved without its access list: {path}")
+            entry["mode"] &= ~0o77
+        return entry
 
-def wait_for_other_time(status):
-    """Waits until a write would change the time of a file of this status. If the file is read after that and has the same time later, nothing was written."""
-    left = status.st_ctime_ns / 10**9 + SECONDS_TO_OTHER_TIME - time.time()
-    if 0 < left <= SECONDS_TO_OTHER_TIME:
-        time.sleep(left)
-
-
-def state_of(status):
-    """What stays the same while a file isn't written to. Another file may have the number of one that was removed, but then not its length and time."""
-    return status.st_dev, status.st_ino, status.st_size, status.st_mtime_ns
-
-
-def words_of_all(name, status):
-    """The words that the lines of files, folders and links have in common. Each write changes the second time, which no program can set."""
-    return [name, f"{stat.S_IMODE(status.st_mode):o}:{status.st_uid}:{status.st_gid}", f"{status.st_mtime_ns}:{status.st_ctime_ns}:{status.st_ino}"]
-
-
-def known_files(repository, folder):
-    """The addresses and attributes of the files that the last backup of a folder has, by the first words of their lines."""
-    backups = [backup for backup, _, place in (found.groups() for found in repository.backups()) if place == quoted(os.path.abspath(folder))]
-    if not backups:
-        return {}
-    try:
-        lines = [line for line in repository.lines_of(backups[-1]) if line[1] == "file" and MORE["file"].fullmatch(line[7])]
-    except (Refused, OSError, Damaged) as fault:
-        print(f"the last backup can't be read, so each file is read: {fault_text(fault)}")
-        return {}
-    return {tuple(line[0].split(" ", 5)[:5]): (line[7].split()[1:], line[8].split()) for line in lines}
-
-
-class Saving:
-    """A tree that is being saved into a repository. `known` has what `known_files` returns."""
-
-    def __init__(self, repository, tree, known):
-        self.repository, self.tree, self.known = repository, tree, known
-        self.linked, self.is_whole = {}, True
-        """The first path of each file that has several, by `state_of`; and whether all was saved as it was."""
-
-    def lines(self):
-        """The lines for the folder and the paths in it."""
-        top = os.fstat(self.tree.top)
-        found = [(["folder", *words_of_all(ITSELF, top)], [], self.attributes(ITSELF, top))]
-        for path, status, fault in entries_of(self.tree, os.stat(self.repository.path)):
-            try:
-                words = None if fault else self.words_of(path, status)
-            except OSError as error:
-                words, fault = None, error_text(error)
-            if words is None:
-                self.report(f"left out: {path}: {fault or 'not a file, folder or link'}", fault == IS_REPOSITORY)
-            else:
-                found.append(words)
-        self.repository.keep_waiting()
-        return [" ".join([*words, *addresses, *attributes]) for words, addresses, attributes in found]
-
-    def attributes(self, path, status):
-        """The words of the backup's line for the attributes of a folder or link of this status."""
-        folder, name = self.tree.parent(path)
-        opened = os.open(name, os.O_PATH | os.O_NOFOLLOW, dir_fd=folder)
-        try:
-            if not os.path.samestat(os.fstat(opened), status):
-                raise OSError(REPLACED)
-            return attributes_of(f"/proc/self/fd/{opened}")
-        finally:
-            os.close(opened)
-
-    def report(self, text, is_meant=False):
-        print(one_line(text))
-        self.is_whole = self.is_whole and is_meant
-
-    def words_of(self, path, status):
-        """The words of the backup's line for a path, a list of addresses that follow them, and the words of its attributes; None for what is left out."""
-        name = quoted(path)
-        words = words_of_all(name, status)
-        if stat.S_ISDIR(status.st_mode):
-            return ["folder", *words], [], self.attributes(path, status)
-        if stat.S_ISLNK(status.st_mode):
-            return ["link", *words, quoted(self.tree.link(path))], [], self.attributes(path, status)
-        if not stat.S_ISREG(status.st_mode):
-            return None
-        if status.st_nlink > 1 and state_of(status) in self.linked:
-            return ["same", *words, self.linked[state_of(status)]], [], []
-        length, is_as_before = status.st_size, True
-        addresses, attributes = self.known.get(("file", *words, str(length)), (None, None))
-        if addresses is None or not self.repository.has_all(addresses, length):
-            addresses, attributes, length, is_as_before = self.keep_file(path, status)
-        if not is_as_before:
+    def save_parts(self, file, path, known):
+        """Keeps the content of an open file. Returns the fields that say what it is."""
+        status, parts, length = os.fstat(file.fileno()), known.get("parts", []), 0
+        fields = {"state": [status.st_ino, status.st_ctime_ns, status.st_mtime_ns, status.st_size]}
+        fields.update({"links": f"{status.st_dev}:{status.st_ino}"} if status.st_nlink > 1 else {})
+        is_known = known.get("state") == fields["state"] and all(type(part) is int or part in self.places for part in parts)
+        if is_known and not self.options.all:
+            return {**fields, "parts": parts}
+        parts = []
+        for part in parts_of(file, status.st_size):
+            length += part * PART if type(part) is int else len(part)
+            parts.append(part if type(part) is int else self.keep(part))
+        after = os.fstat(file.fileno())
+        is_same = (after.st_ctime_ns, after.st_size) == (status.st_ctime_ns, status.st_size) and length >= status.st_size
+        if not is_same:
             self.report(f"changed while it was read: {path}")
-        elif status.st_nlink > 1:
-            self.linked[state_of(status)] = name
-        return ["file", *words, str(length)], addresses, attributes
+        if not is_same or status.st_ctime_ns > self.start - CLOCK_STEP:
+            del fields["state"]
+        return {**fields, "parts": parts, "size": min(length, status.st_size)}
 
-    def keep_file(self, path, status):
-        """Keeps a file of this status in pieces. Returns the list for their addresses, the words of its attributes, the length of the pieces together, and
-        whether the file stayed as it was."""
-        with opened(*self.tree.parent(path), status) as file:
-            wait_for_other_time(status)
-            attributes = attributes_of(file.fileno())
-            addresses, length = self.repository.keep_all(file, status.st_size)
-            after = os.fstat(file.fileno())
-        return addresses, attributes, length, length == status.st_size and state_of(after) == state_of(status)
+    def restore(self):
+        top = self.snapshot(self.find(self.options.snapshot))["top"]
+        os.makedirs(os.path.dirname(os.path.abspath(self.options.folder)), exist_ok=True)
+        with contextlib.suppress(FileExistsError):
+            os.mkdir(self.options.folder, NEW_FOLDER)
+        with inside(self.options.folder, 0) as self.top:
+            self.restore_list(self.top, top, "", [name for name in (self.options.path or "").split("/") if name])
+        if self.foreign:
+            self.report(f"{count_text(self.foreign, 'owner')} couldn't be set; no setuid or setgid bits are set there")
 
-
-def save(repository, options):
-    if os.path.exists(options.repository) and os.path.samefile(options.folder, options.repository):
-        raise Damaged(f"{options.folder} is the repository")
-    with contextlib.closing(Tree(os.open(options.folder, os.O_RDONLY | os.O_DIRECTORY), os.O_RDONLY)) as tree:
-        repository.make()
-        with repository.locked(fcntl.LOCK_EX):
-            repository.load()
-            repository.clean()
-            repository.compares = options.all
-            saving = Saving(repository, tree, {} if options.all else known_files(repository, options.folder))
-            lines = saving.lines()
-            backup = repository.keep_backup(options.folder, lines)
-    kinds, counts = collections.Counter(line.split(" ")[0] for line in lines[1:]), repository.counts
-    print(f"files {kinds['file'] + kinds['same']} folders {kinds['folder']} links {kinds['link']}")
-    print(f"new objects {counts['new']} bytes {counts['new bytes']} known objects {counts['known']} bytes {counts['known bytes']}")
-    print(f"backup {backup}")
-    return saving.is_whole
-
-
-class Restoring:
-    """A backup that is being restored into a tree, whose folder is new or was there."""
-
-    def __init__(self, repository, tree, is_new):
-        self.repository, self.tree, self.is_new = repository, tree, is_new
-        self.folders, self.files = [], set()
-        """The path of each folder that was made, its line and its number; and the paths of the files that were restored."""
-        self.unowned, self.lost, self.is_whole = 0, [], True
-        """How many owners were not restored; which attributes were not, and why."""
-
-    def restore(self, line):
-        """Restores a line's file, link or folder. Raises OSError if the line is wrong, or a folder on its path is a link."""
-        fault = line_fault(line)
-        if fault is not None:
-            raise OSError(fault)
-        make = {"folder": self.make_folder, "file": self.make_file, "link": self.make_link, "same": self.make_hard_link}[line[1]]
-        make(path_of(line[2]), line, line[7].split())
-
-    def make_folder(self, path, line, _):
-        """Makes a folder, unless it is there. Only one that was made, or the new folder to restore into, gets its owner, mode and time later."""
-        if path == ITSELF and not self.is_new:
-            return
-        if path != ITSELF:
-            folder, name = self.tree.parent(path)
+    def restore_list(self, number, folder, path, wanted):
+        """Restores what is in a folder, or what has the wanted names below it, into the current one, of which a descriptor is given."""
+        found = [entry for entry in self.entries(folder) if not wanted or entry["name"] == wanted[0]]
+        if wanted and not found:
+            self.report(f"not in the snapshot: {os.path.join(path, *wanted)}")
+        for entry in found:
+            below = os.path.join(path, entry["name"])
             try:
-                os.mkdir(name, 0o700, dir_fd=folder)
-            except FileExistsError:
-                if not stat.S_ISDIR(self.tree.status(path).st_mode):
-                    raise
-                return
-            check_new(self.tree.folder(path))
-        self.folders.append((path, line, number_of(self.tree.folder(path))))
+                self.restore_entry(entry, below, wanted[1:])
+            except (OSError, OverflowError, Fault) as error:
+                self.report(f"not restored: {below}: {error_text(error)}")
+        status = os.fstat(number)
+        # a folder that was there keeps its own mode, owner and time
+        if stat.S_IMODE(status.st_mode) == NEW_FOLDER and status.st_uid == os.geteuid():
+            self.set_facts(number, folder)
 
-    def make_hard_link(self, path, _, words):
-        source = path_of(words[0])
-        if source not in self.files:
-            raise OSError(f"it is a hard link of {unquoted(words[0])}, which isn't restored")
-        folder, name = self.tree.parent(source)
-        folder = os.dup(folder)
+    def restore_entry(self, entry, path, wanted):
+        """Restores an entry into the current folder, unless it is there. Raises OSError, OverflowError and Fault."""
+        name = entry["name"]
+        if entry["kind"] == "folder":
+            with contextlib.suppress(FileExistsError):
+                os.mkdir(name, NEW_FOLDER)
+            with inside(name) as number:
+                return self.restore_list(number, entry, path, wanted)
+        if os.path.lexists(name) and not is_equal(entry):
+            return self.report(f"differs, and is left as it is: {path}")
+        if not os.path.lexists(name) and not self.is_linked(entry):
+            self.write(entry)
+        self.linked.setdefault(str(entry.get("links")), (path, os.lstat(name)))
+
+    def is_linked(self, entry):
+        """Whether a file could become another name of the one that was restored first."""
+        path, status = self.linked.get(str(entry.get("links")), ("", None))
+        with contextlib.suppress(OSError):
+            if status is not None and "links" in entry:
+                os.link(f"/proc/self/fd/{self.top}/{path}", entry["name"], follow_symlinks=False)
+                if os.path.samestat(os.lstat(entry["name"]), status):
+                    return True
+                os.unlink(entry["name"])
+        return False
+
+    def write(self, entry):
+        """Writes a new file or link, first under another name. Raises OSError, also if something has its name by now, OverflowError and Fault."""
+        aside = f".{blake3(os.fsencode(entry['name'])).hexdigest()[:16]}.restoring"
+        with contextlib.suppress(FileNotFoundError):
+            # an interrupted run has left it
+            os.unlink(aside)
         try:
-            target_folder, target_name = self.tree.parent(path)
-            os.link(name, target_name, src_dir_fd=folder, dst_dir_fd=target_folder, follow_symlinks=False)
-        finally:
-            os.close(folder)
-
-    def make_link(self, path, line, words):
-        folder, name = self.tree.parent(path)
-        os.symlink(unquoted(words[0]), name, dir_fd=folder)
-        link = os.open(name, os.O_PATH | os.O_NOFOLLOW, dir_fd=folder)
-        try:
-            if not stat.S_ISLNK(os.fstat(link).st_mode):
-                raise OSError("another file has taken its place while it was restored")
-            self.finish(f"/proc/self/fd/{link}", line, has_mode=False)
-        finally:
-            os.close(link)
-
-    def make_file(self, path, line, words):
-        with self.write(*self.tree.parent(path), words[1:]) as file:
-            self.files.add(path)
-            fault = length_fault(line, file.tell())
-            if fault is not None:
-                self.report("not restored as it was", line, fault)
-            self.finish(file.fileno(), line)
-
-    def write(self, folder, name, addresses):
-        """Writes a new file of these pieces in an open folder, and returns it; or leaves none if one of them can't be read or written."""
-        file, signals = None, signal.pthread_sigmask(signal.SIG_BLOCK, {signal.SIGINT})
-        try:
+            if entry["kind"] == "link":
+                os.symlink(entry["target"], aside)
+                self.set_facts(aside, entry, follow_symlinks=False)
+            else:
+                self.write_parts(aside, entry)
             try:
-                file = open(name, "xb", opener=lambda name, flags: os.open(name, flags, 0o600, dir_fd=folder))
-            finally:
-                # an interrupt comes now, when it is known whether there is a file
-                signal.pthread_sigmask(signal.SIG_SETMASK, signals)
-            file.writelines(map(self.repository.read, addresses))
-            file.flush()
-            return file
-        except BaseException:
-            if file is not None:
-                os.remove(name, dir_fd=folder)
-                with contextlib.suppress(OSError):
-                    file.close()
-            raise
-
-    def finish_folder(self, path, number, line):
-        """Sets the owner, mode and time of a folder that was made."""
-        folder = os.open(".", os.O_RDONLY | os.O_DIRECTORY, dir_fd=self.tree.folder(path))
-        try:
-            if number_of(folder) != number:
-                raise OSError("another folder has taken its place while it was restored")
-            self.finish(folder, line)
+                os.link(aside, entry["name"], follow_symlinks=False)
+            except PermissionError:
+                # the file system has no hard links
+                os.rename(aside, entry["name"])
         finally:
-            os.close(folder)
+            with contextlib.suppress(FileNotFoundError):
+                os.unlink(aside)
 
-    def finish(self, place, line, has_mode=True):
-        """Sets the owner, mode and time of what was restored. `place` is its descriptor, or for a link, which has no mode, the path of the descriptor: the
-        system follows that to the link itself, whatever has taken the link's place meanwhile."""
-        _, _, mode, owner, group, moment, _, attributes = line.groups()
-        mode = int(mode, 8)
-        if owner is None or not is_given(place, int(owner), int(group)):
-            self.unowned += 1
+    def write_parts(self, name, entry):
+        with opened(name, "xb") as file:
+            for part in entry["parts"]:
+                content = memoryview(b"" if type(part) is int else self.read(part))
+                file.seek(part * PART if type(part) is int else 0, os.SEEK_CUR)
+                while content:
+                    content = content[file.write(content) :]
+            # zeros at the end are counted in whole parts
+            if not 0 <= file.tell() - entry["size"] < (PART if type((entry["parts"] or [""])[-1]) is int else 1):
+                raise Fault(f"its parts don't have {count_text(entry['size'], 'byte')}")
+            file.truncate(entry["size"])
+            self.set_facts(file.fileno(), entry)
+
+    def set_facts(self, place, entry, **how):
+        """Gives a file, folder or link its owner, mode and time."""
+        mode = entry["mode"]
+        try:
+            os.chown(place, entry["uid"], entry["gid"], **how)
+        except OSError:
+            self.foreign += 1
             mode &= ~(stat.S_ISUID | stat.S_ISGID)
-        for name, value in (word.split("=") for word in attributes.split()):
-            mode = self.set_attribute(place, unquoted(name), bytes.fromhex(value), line, mode)
-        if has_mode:
+        if not how:
             os.chmod(place, mode)
-        os.utime(place, ns=(int(moment), int(moment)))
+        os.utime(place, ns=(entry["mtime"], entry["mtime"]), **how)
 
-    def set_attribute(self, place, name, value, line, mode):
-        """Sets an extended attribute of what was restored, before its mode, which an access list limits. Returns the mode that it gets then."""
-        try:
-            os.setxattr(place, name, value)
-        except OSError as fault:
-            self.lost.append(f"{name} of {unquoted(line[2])}: {error_text(fault)}")
-            return mode_within(value, mode) if name == ACCESS_LIST else mode
-        return mode
+    def list(self):
+        if self.options.snapshot is not None:
+            for path, _ in self.paths(self.snapshot(self.find(self.options.snapshot))["top"]):
+                print(one_line(path))
+            return
+        for address in self.snapshots:
+            try:
+                value = self.snapshot(address)
+                print(one_line(f"{address}  {time.strftime('%Y-%m-%d %H:%M:%S', time.gmtime(value['time']))}  {value['path']}"))
+            except Fault as fault:
+                self.report(f"{address}  {fault}")
 
-    def try_to(self, work, line, *words):
-        try:
-            work(*words, line)
-        except (Refused, OSError, ValueError, OverflowError, struct.error) as fault:
-            self.report("not restored", line, error_text(fault))
+    def check(self):
+        count, broken, whole = len(self.places), 0, set()
+        for name in self.logs:
+            # the program compares the hash of each object with its address
+            with self.open(name) as log, subprocess.Popen([self.options.program, "serve"], stdin=log, stdout=subprocess.PIPE) as process:
+                hashed = {line.split()[1].decode() for line in process.stdout if line.startswith((b"new ", b"known "))}
+            for address in [address for address, place in self.places.items() if place[0] == name and address not in hashed]:
+                self.report(f"damaged: object {address} in {name}")
+                del self.places[address]
+        for address in self.snapshots:
+            lists, faults = set(), []
+            try:
+                for path, entry in self.paths(self.snapshot(address)["top"], whole):
+                    lists.add(entry.get("list"))
+                    faults += [path] if any(type(part) is str and part not in self.places for part in entry.get("parts", ())) else []
+            except Fault as fault:
+                faults.append(f"all: {fault}")
+            for fault in faults:
+                self.report(f"snapshot {address[:8]} can't restore {fault}")
+            broken += bool(faults)
+            whole |= lists if not faults else set()
+        print(f"{count_text(count, 'object')}, {count - len(self.places)} damaged; {count_text(len(self.snapshots), 'snapshot')}, {broken} broken")
 
-    def report(self, what, line, text):
-        print(one_line(f"{what}: {unquoted(line[2])}: {text}"))
-        self.is_whole = False
-
-
-def mode_within(access_list, mode):
-    """A mode that gives no one more than a mode and an access list did together: there, the mode's bits for the group limit all entries but the owner's and
-    those of others."""
-    limit = mode >> 3
-    for kind, bits, _ in struct.iter_unpack("<HHI", access_list[4:]):
-        if kind in (USER, OWN_GROUP):
-            mode &= ~0o070 | (bits & limit) << 3
-        if kind in (USER, GROUP):
-            mode &= ~0o007 | bits & limit
-    return mode
-
-
-def number_of(folder):
-    """The number of an open folder, which no other has."""
-    status = os.fstat(folder)
-    return status.st_dev, status.st_ino
-
-
-def is_given(place, owner, group):
-    """Gives a file to an owner and a group, and returns whether that is possible here."""
-    try:
-        os.chown(place, owner, group)
-        return True
-    except OSError as fault:
-        if fault.errno in NOT_ALLOWED:
-            return False
-        raise
-
-
-def restore(repository, options):
-    repository.load()
-    lines = repository.lines_of(options.address)
-    is_new = not os.path.isdir(options.folder)
-    top = new_folder(options.folder) if is_new else os.open(options.folder, os.O_PATH | os.O_DIRECTORY)
-    with contextlib.closing(Tree(top, os.O_PATH)) as tree:
-        restoring = Restoring(repository, tree, is_new)
-        for line in lines:
-            restoring.try_to(restoring.restore, line)
-        for path, line, number in reversed(restoring.folders):
-            restoring.try_to(restoring.finish_folder, line, path, number)
-    if restoring.unowned:
-        print(f"owners not restored: {restoring.unowned}; no setuid or setgid bits are set there")
-    if restoring.lost:
-        show(f"backup: attributes not restored: {len(restoring.lost)}, such as {one_line(restoring.lost[0])}; no mode gives more than an access list did\n")
-    return restoring.is_whole and not restoring.unowned and not restoring.lost
+    def forget(self):
+        if self.status:
+            raise Fault("nothing is removed from a repository that is damaged")
+        removed, before = {self.find(word) for word in self.options.snapshot}, sum(self.logs.values())
+        kept = [address for address in self.snapshots if address not in removed]
+        needed = {*kept}
+        for top in [self.snapshot(address)["top"] for address in kept]:
+            entries = [top, *(entry for _, entry in self.paths(top, needed))]
+            needed.update(*([entry.get("list"), *entry.get("parts", ())] for entry in entries))
+        # what is needed of the logs that have something else too is written to new ones
+        emptied = {name for address, (name, _, _) in self.places.items() if address not in needed}
+        for address in [address for address, place in self.places.items() if place[0] in emptied and address in needed]:
+            content = self.read(address)
+            del self.places[address]
+            self.keep(content)
+        self.set_snapshots(map(checked_line, kept))
+        for name in emptied:
+            os.unlink(name, dir_fd=self.folder)
+            del self.logs[name]
+        print(f"{count_text(len(removed), 'snapshot')} removed, {count_text(before - sum(self.logs.values()), 'byte')} freed")
 
 
-def an_address(text):
-    if not ADDRESS.fullmatch(text):
-        raise argparse.ArgumentTypeError(f"{text!r} is not an address, which has 64 hexadecimal digits")
-    return text
-
-
-def a_path(text):
-    if not text:
-        raise argparse.ArgumentTypeError("a path must not be empty")
-    return text
-
-
-def a_memory(text):
-    if not re.fullmatch("[0-9]{1,14}", text) or not MIN_MEMORY <= int(text) <= MAX_LIMIT:
-        raise argparse.ArgumentTypeError(f"{text!r} is not a number of bytes from {MIN_MEMORY} to {MAX_LIMIT}")
-    return int(text)
-
-
-COMMANDS = (
-    ("save", save, "save what is in FOLDER, and print the backup's address", ["folder", "repository"]),
-    ("restore", restore, "restore a backup into FOLDER, without overwriting anything", ["repository", "address", "folder"]),
-    ("check", check, "compare each object with its address, and print which backups can't be restored", ["repository"]),
-)
-
-
-def read_options():
-    parser = argparse.ArgumentParser(
-        description="Back up a folder into a repository, and restore it.", epilog=EXAMPLE, formatter_class=argparse.RawDescriptionHelpFormatter
-    )
-    parser.add_argument("--memory", type=a_memory, default=1 << 28, metavar="BYTES", help="let the store hold up to BYTES, 8 MiB or more (default: 256 MiB)")
-    commands = parser.add_subparsers(required=True, metavar="COMMAND")
-    for name, work, purpose, words in COMMANDS:
-        command = commands.add_parser(name, help=purpose, description=purpose[0].upper() + purpose[1:] + ".")
-        command.set_defaults(work=work)
-        for word in words:
-            command.add_argument(word, metavar=word.upper(), type=an_address if word == "address" else a_path)
-        if work is save:
-            extent = "also read files that haven't changed since the last backup, and compare the objects that are already there"
-            command.add_argument("--all", action="store_true", help=extent)
-    return parser.parse_args()
-
-
-def run(options):
-    with Store() as store:
-        repository = Repository(options.repository, store, options.memory)
-        return 0 if options.work(repository, options) else 1
+def is_equal(entry):
+    """Whether what has the name of an entry in the current folder has its content, or leads to the same. Raises OSError."""
+    if KINDS.get(stat.S_IFMT(os.lstat(entry["name"]).st_mode)) != entry["kind"]:
+        return False
+    if entry["kind"] == "link":
+        return os.readlink(entry["name"]) == entry["target"]
+    with opened(entry["name"]) as file:
+        size = os.fstat(file.fileno()).st_size
+        return size == entry["size"] and [part if type(part) is int else blake3(part).hexdigest() for part in parts_of(file, size)] == entry["parts"]
 
 
 def main():
-    if not open_standard_files():
-        show("backup: standard output is closed\n")
-        return 1
-    # paths have the bytes that the system gives, whatever PYTHONIOENCODING says
-    sys.stdout.reconfigure(encoding=sys.getfilesystemencoding(), errors="surrogateescape")
-    os.umask(PRIVATE)
-    try:
-        raise_again()
-        return written(lambda: run(read_options()))
-    except (Refused, OSError, Damaged, WriteFailed) as fault:
-        status, text = 1, fault_text(fault)
-    except MemoryError:
-        status, text = 1, "out of memory"
-    except KeyboardInterrupt:
-        status, text = 128 + signal.SIGINT, "interrupted"
-    finally:
-        end_at_once()
-    show(f"backup: {one_line(text)}\n")
-    drop_output()
-    return status
+    parser = argparse.ArgumentParser(description=__doc__, formatter_class=argparse.RawDescriptionHelpFormatter)
+    commands = parser.add_subparsers(metavar="COMMAND", required=True)
+    for work, words in (Backup.save, "FOLDER"), (Backup.list, "SNAPSHOT?"), (Backup.restore, "SNAPSHOT FOLDER PATH?"), (Backup.check, ""), (Backup.forget, "SNAPSHOT*"):
+        command = commands.add_parser(work.__name__)
+        command.set_defaults(work=work)
+        for word in ["REPOSITORY", *words.split()]:
+            name = word.rstrip("?*")
+            command.add_argument(name.lower(), metavar=name, nargs=word[len(name) :] or None)
+        if work is Backup.save:
+            command.add_argument("--exclude", metavar="PATTERN", action="append", default=[])
+            command.add_argument("--all", action="store_true")
+        if work is Backup.check:
+            command.add_argument("--program", metavar="PROGRAM", default="b3store")
+    options = parser.parse_args()
+    if options.work is Backup.save:
+        os.makedirs(options.repository, 0o700, exist_ok=True)
+    # a folder is saved and restored by calls from those for the folder that it is in
+    sys.setrecursionlimit(20 * MAX_DEPTH)
+    backup = Backup(options)
+    options.work(backup)
+    return backup.status
 
 
 if __name__ == "__main__":
-    sys.exit(main())
+    sys.exit(finish(main))

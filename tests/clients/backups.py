@@ -1,9 +1,13 @@
 """Backups by examples/backup.py."""
+import contextlib
+import errno
 import fcntl
 import io
+import json
 import os
 import random
 import re
+import resource
 import shutil
 import signal
 import stat
@@ -12,225 +16,384 @@ import subprocess
 import sys
 import tempfile
 import time
+from unittest import mock
 
-from shared import ABC, EMPTY, SECONDS, TOP, differences, raised, readable_by_others
-from b3store import Store
-import backup_pieces
-from backup import opened
-from backup_repository import Repository
-
+from shared import PROGRAM, SECONDS, TOP, differences, readable_by_others
+from b3store.hashing import blake3
+import backup
 
 BACKUP = [sys.executable, os.path.join(TOP, "examples", "backup.py")]
+PART = backup.PART
+IS_ROOT = os.geteuid() == 0
 
 
-def backup(*words):
-    run = subprocess.run([*BACKUP, *words], capture_output=True, timeout=SECONDS)
-    return run.returncode, run.stdout.decode().splitlines()
+def run(*words, **how):
+    """The status of a command, its lines, and those of its errors."""
+    ran = subprocess.run([*BACKUP, *words], stdout=subprocess.PIPE, stderr=subprocess.PIPE, timeout=SECONDS, **how)
+    return ran.returncode, ran.stdout.decode(errors="surrogateescape").splitlines(), ran.stderr.decode(errors="surrogateescape").splitlines()
 
 
-def folder_to_keep(place):
-    """A folder of odd things, and the path of its large file."""
-    folder = os.path.join(place, "folder")
-    os.makedirs(os.path.join(folder, "sub", "empty"))
-    large = os.path.join(folder, "large")
-    with open(large, "wb") as file:
-        file.write(random.Random(1).randbytes(2000000))
-    for name, content in {"sub/odd\n name": b"x", "none": b""}.items():
-        with open(os.path.join(folder, name), "wb") as file:
-            file.write(content)
-    shutil.copy(large, os.path.join(folder, "again"))
-    os.symlink("large", os.path.join(folder, "link"))
-    os.chmod(os.path.join(folder, "none"), 0o640)
-    os.utime(os.path.join(folder, "none"), ns=(5, 1234567890))
-    return folder, large
+def check(repository):
+    return run("check", "--program", PROGRAM, repository)
+
+
+def is_whole(repository, snapshots):
+    """What is wrong with a repository that should have so many snapshots, each of which can be restored."""
+    status, lines, errors = check(repository)
+    return differences((status, 0), (errors, [])) + ([] if re.fullmatch(f"[0-9]+ objects?, 0 damaged; {snapshots} snapshots?, 0 broken", lines[-1]) else lines)
+
+
+def put(folder, name, content=b"abc", mode=0o644):
+    path = os.path.join(folder, name)
+    os.makedirs(os.path.dirname(path), exist_ok=True)
+    with open(path, "wb") as file:
+        file.write(content)
+    os.chmod(path, mode)
+    # a file that has just changed is always read again
+    os.utime(path, ns=(5, 1234567890))
+    return path
 
 
 def state_of(folder):
-    """Names below a folder, with what a backup keeps of them."""
-    found = {}
+    """What is in a folder, with all that a backup keeps of it."""
+    found, first = {}, {}
     for place, folders, names in os.walk(folder):
-        for name in folders + names:
-            path = os.path.join(place, name)
+        for name in folders + names + ["."]:
+            path = os.path.normpath(os.path.join(place, name))
             status = os.lstat(path)
-            inside = os.readlink(path) if stat.S_ISLNK(status.st_mode) else None
+            content = os.readlink(path) if stat.S_ISLNK(status.st_mode) else None
             if stat.S_ISREG(status.st_mode):
                 with open(path, "rb") as file:
-                    inside = file.read()
-            time_told = None if stat.S_ISLNK(status.st_mode) else status.st_mtime_ns
-            found[os.path.relpath(path, folder)] = (status.st_mode, time_told, inside)
+                    content = file.read()
+            links = first.setdefault(status.st_ino, os.path.relpath(path, folder)) if stat.S_ISREG(status.st_mode) else None
+            found[os.path.relpath(path, folder)] = status.st_mode, status.st_uid, status.st_gid, status.st_mtime_ns, content, links
     return found
 
 
-def new_bytes(lines):
-    return int(next(line for line in lines if line.startswith("new objects ")).split()[4])
+def contents_of(folder):
+    """The modes and contents of what is in a folder: one that a second run has completed has another time."""
+    return {path: (facts[0], facts[4]) for path, facts in state_of(folder).items()}
 
 
-def backs_up():
-    """It is restored as it was; a second backup, and one of a file with six bytes more in front, add little."""
-    with tempfile.TemporaryDirectory() as place:
-        folder, large = folder_to_keep(place)
-        repository = os.path.join(place, "repository")
-        status, lines = backup("save", folder, repository)
-        again, told = backup("save", "--all", folder, repository)
-        found = differences((status, 0), (again, 0), (new_bytes(told), 0), (told[-1], lines[-1]), (lines[0], "files 4 folders 2 links 1"))
-        restored = os.path.join(place, "restored")
-        status, said = backup("restore", repository, lines[-1].split()[1], restored)
-        found += differences((status, 0), (said, [])) + ([] if state_of(restored) == state_of(folder) else ["it is restored as something else"])
-        with open(large, "rb") as file:
-            content = file.read()
-        with open(large, "wb") as file:
-            file.write(b"abcdef" + content)
-        for name in "pipe", "a\nbackup pipe":
-            os.mkfifo(os.path.join(folder, name))
-        status, lines = backup("--memory", str(1 << 23), "save", folder, repository)
-        found += differences((status, 1), (lines[:2], [f"left out: {name}: not a file, folder or link" for name in ("a\\nbackup pipe", "pipe")]))
-        return found if 0 < new_bytes(lines) < 300000 else [*found, f"{new_bytes(lines)} bytes are new"]
-
-
-def folder_of_abc(place):
-    """The paths of a new folder with one file, and of a repository that isn't there yet."""
-    folder, repository = os.path.join(place, "folder"), os.path.join(place, "repository")
-    os.mkdir(folder)
-    with open(os.path.join(folder, "file"), "wb") as file:
-        file.write(b"abc")
-    return folder, repository
-
-
-def changed_in_packs(repository, old, new):
-    """Replaces bytes in the packs that have them."""
-    for name in os.listdir(os.path.join(repository, "packs")):
-        path = os.path.join(repository, "packs", name)
-        with open(path, "rb+") as file:
-            content = file.read()
-            file.seek(0)
-            file.truncate()
-            file.write(content.replace(old, new))
-
-
-def finds_changed_objects():
-    """A changed object is reported with the file that needs it, until a save compares it and keeps it again."""
-    with tempfile.TemporaryDirectory() as place:
-        folder, repository = folder_of_abc(place)
-        address = backup("save", folder, repository)[1][-1].split()[1]
-        right = (0, ["objects 3 wrong 0", "backups 1 broken 0"])
-        found = differences((backup("check", repository), right))
-        changed_in_packs(repository, b"3\nabc", b"3\nabd")
-        status, lines = backup("check", repository)
-        found += differences((status, 1), (lines[0].split()[:2], ["wrong:", ABC]))
-        found += differences((lines[1:], [f"backup {address} can't restore file", "objects 3 wrong 1", "backups 1 broken 1"]))
-        status, lines = backup("restore", repository, address, os.path.join(place, "restored"))
-        found += differences((status, 1), (len(lines), 1), (os.listdir(os.path.join(place, "restored")), []))
-        found += differences((backup("save", "--all", folder, repository)[1][1].split()[:3], ["new", "objects", "1"]))
-        status, lines = backup("check", repository)
-        found += differences((status, 0), (lines[0].endswith("; another copy is right"), True), (lines[1:], right[1]), (backup("frob")[0], 2))
-        return found + differences((backup("restore", repository, address, os.path.join(place, "again")), (0, [])))
-
-
-def odd_files_in_a_repository():
-    """What a killed run left, and what else is no object, is reported and does no harm; what names no backup ends with a message."""
-    with tempfile.TemporaryDirectory() as place:
-        folder, repository = folder_of_abc(place)
-        backup("save", folder, repository)
-        left = [os.path.join(repository, name) for name in (f"objects/64/{ABC}.new", "packs/index.new", "packs/pack.new")]
-        for path in (*left, os.path.join(repository, "objects", "stray"), os.path.join(repository, "packs", "stray")):
-            os.makedirs(os.path.dirname(path), exist_ok=True)
-            with open(path, "wb"):
-                pass
-        names = [f"objects/64/{ABC}.new", "objects/stray", "packs/index.new", "packs/pack.new", "packs/stray"]
-        status, lines = backup("check", repository)
-        found = differences((status, 0), (sorted(lines[:5]), [f"no object: {name}" for name in names]), (lines[5], "objects 3 wrong 0"))
-        found += differences((backup("save", folder, repository)[0], 0), ([os.path.exists(path) for path in left], [False] * 3))
-        for words in ["restore", repository, ABC, place], ["restore", repository, EMPTY, place], ["check", place + "/gone"], ["save", place + "/gone", repository]:
-            found += differences((backup(*words)[0], 1))
-        found += differences((backup("restore", repository, "frob", folder)[0], 2))
-        holding = os.open(repository, os.O_RDONLY)
-        fcntl.flock(holding, fcntl.LOCK_EX)
-        found += differences((backup("save", folder, repository)[0], 1), (backup("check", repository)[0], 1))
-        os.close(holding)
-        with open(os.path.join(repository, "backups"), "rb") as file:
-            lines = file.read()
-        for line in b"frob\n", lines.replace(b"/", b"\xaf"):
-            with open(os.path.join(repository, "backups"), "wb") as file:
-                file.write(lines + line)
-            for words in ["check", repository], ["save", folder, repository], ["save", "--all", folder, repository]:
-                run = subprocess.run([*BACKUP, *words], capture_output=True, timeout=SECONDS)
-                found += differences((run.returncode, 1), (run.stdout, b""), (re.sub(b":.*/backups |: '.*", b" ", run.stderr), b"backup has a line that names no backup \n"))
-        return found
-
-
-def refuses_wrong_words():
-    """Wrong arguments end a run at once, with one line that has what is wrong."""
-    with tempfile.TemporaryDirectory() as place:
-        folder, repository = folder_of_abc(place)
-        file = os.path.join(folder, "file")
-        cases = (
-            (["save", folder, file], 1, file), (["save", file, repository], 1, file), (["save", place + "/none", repository], 1, place + "/none"),
-            (["check", file], 1, file), (["check", place + "/none"], 1, place + "/none"), (["restore", place + "/none", ABC, folder], 1, place + "/none"),
-            (["restore", repository, "zz", folder], 2, "'zz'"), (["--memory", "x", "check", folder], 2, "'x'"), (["--memory", "5", "check", folder], 2, "'5'"),
-            (["save"], 2, "FOLDER"),
-            (["save", folder, ""], 2, "REPOSITORY: a path must not be empty"),
-        )
-        found = []
-        for words, status, part in cases:
-            run = subprocess.run([*BACKUP, *words], capture_output=True, timeout=SECONDS)
-            lines = run.stderr.decode().splitlines()
-            found += differences((run.returncode, status), (run.stdout, b""))
-            found += [] if part in lines[-1] and (status == 2 or len(lines) == 1) else [f"{words}: {lines[-1]}"]
-        return found
-
-
-def made_backup(place, *lines):
-    """A repository with a backup of these lines, in which `abc` is the address of an object, and its address."""
-    repository, addresses = os.path.join(place, "repository"), []
-    with Store() as store:
-        kept = Repository(repository, store, 1 << 23)
-        kept.make()
-        kept.keep(b"abc", addresses)
-        kept.keep_waiting()
-        return repository, kept.keep_backup(place, [line.replace("abc", addresses[0]) for line in lines])
-
-
-def restores_nothing_elsewhere():
-    """No line leads out of the folder, through a link or over what is there; and without an owner there is no setuid bit."""
-    with tempfile.TemporaryDirectory() as place:
-        outside, inside = os.path.join(place, "outside"), os.path.join(place, "inside")
-        os.mkdir(outside)
-        lines = ["file f 4755 0 3 abc", f"link d 777 0 {outside}", "file d/x 644 0 3 abc", "file ../x 644 0 3 abc", f"file {outside}/y 644 0 3 abc"]
-        repository, address = made_backup(place, *lines, "file f 644 0 3 abc", "folder d 755 0")
-        status, said = backup("restore", repository, address, inside)
-        found = differences((status, 1), (len(said), 6), (os.listdir(outside), []), (sorted(os.listdir(inside)), ["d", "f"]))
-        mode = stat.S_IMODE(os.stat(os.path.join(inside, "f")).st_mode)
-        return found + differences((said[-1], "owners not restored: 2; no setuid or setgid bits are set there"), (mode, 0o755))
-
-
-def keeps_owners_and_links():
-    """Hard links are links again, and who may give files away gets owners, and setuid bits with them. The folder itself is restored too, unless it was
-    there; and other users can read nothing in the repository."""
+@contextlib.contextmanager
+def place_of(save=True):
+    """The paths of a folder of odd things, of a repository, which has a snapshot of it, and of a folder to restore into."""
     with tempfile.TemporaryDirectory() as place:
         folder, repository, restored = (os.path.join(place, name) for name in ("folder", "repository", "restored"))
-        os.mkdir(folder)
-        first, second, link = (os.path.join(folder, name) for name in ("a", "b", "link"))
-        with open(first, "wb") as file:
-            file.write(b"abc")
-        os.link(first, second)
-        os.symlink("a", link)
-        os.utime(link, ns=(5, 1234567890), follow_symlinks=False)
-        if os.geteuid() == 0:
-            os.chown(first, 1234, 4321)
-            os.chown(link, 1234, 4321, follow_symlinks=False)
-        os.chmod(first, 0o4755)
-        os.chmod(folder, 0o750)
-        os.utime(folder, ns=(5, 1234567890))
-        status, lines = backup("save", folder, repository)
-        found = differences((status, 0), (lines[0], "files 2 folders 0 links 1"), (readable_by_others(repository), []))
-        found += differences((backup("restore", repository, lines[-1].split()[1], restored), (0, [])))
-        there = os.path.join(place, "there")
-        os.mkdir(there, 0o711)
-        found += differences((backup("restore", repository, lines[-1].split()[1], there), (0, [])), (stat.S_IMODE(os.stat(there).st_mode), 0o711))
-        for name in [".", *os.listdir(folder)]:
-            was, now = (os.lstat(os.path.join(at, name)) for at in (folder, restored))
-            found += differences(((now.st_mode, now.st_uid, now.st_gid, now.st_mtime_ns, now.st_nlink), (was.st_mode, was.st_uid, was.st_gid, was.st_mtime_ns, was.st_nlink)))
-        return found + differences((os.path.samefile(os.path.join(restored, "a"), os.path.join(restored, "b")), True))
+        rng = random.Random(1)
+        put(folder, "large", rng.randbytes(3 * PART + 5))
+        put(folder, "sub/odd\n name", b"x", 0o600)
+        put(folder, os.fsdecode(b"sub/\xff\xfe"), b"", 0o4711)
+        put(folder, "sub/none", b"", 0o440)
+        for number in range(40):
+            put(folder, f"many/{number}/file", rng.randbytes(rng.randrange(5000)))
+        shutil.copy(os.path.join(folder, "large"), os.path.join(folder, "same"))
+        os.link(os.path.join(folder, "large"), os.path.join(folder, "sub", "hard"))
+        os.symlink("../large", os.path.join(folder, "sub", "link"))
+        os.symlink(os.fsdecode(b"nowhere \xff"), os.path.join(folder, "dangling"))
+        os.utime(os.path.join(folder, "dangling"), ns=(5, 77), follow_symlinks=False)
+        if IS_ROOT:
+            os.chown(os.path.join(folder, "sub", "odd\n name"), 1234, 4321)
+            os.chown(os.path.join(folder, "dangling"), 1234, 4321, follow_symlinks=False)
+        with open(os.path.join(folder, "sparse"), "wb") as file:
+            file.seek(30 * PART)
+            file.write(b"end")
+            file.truncate(40 * PART + 7)
+        os.chmod(os.path.join(folder, "many"), 0o2750)
+        os.utime(os.path.join(folder, "many"), ns=(5, 99))
+        if save:
+            status, lines, errors = run("save", repository, folder)
+            if (status, errors) != (0, []):
+                raise ValueError(f"save: {status} {lines} {errors}")
+        yield folder, repository, restored
+
+
+def address_in(lines):
+    return lines[-1].split()[1]
+
+
+def new_bytes(lines):
+    return int(re.fullmatch("[0-9]+ new objects?, ([0-9]+) bytes?", lines[-2])[1])
+
+
+def round_trip():
+    """It is restored as it was, in a small repository that only its user can read. A second snapshot adds little, and one of a file with six bytes at its end a part."""
+    with place_of() as (folder, repository, restored):
+        found = differences((readable_by_others(repository), []), (run("restore", repository, "latest", restored), (0, [], [])))
+        found += [] if state_of(restored) == state_of(folder) else ["it is restored as something else"]
+        blocks = os.stat(os.path.join(restored, "sparse")).st_blocks
+        found += [f"{blocks} blocks are taken"] if blocks > 4 * PART // 512 else []
+        for name, change, most in ("again", b"", 30000), ("at its end", b"abcdef", PART + 30000):
+            with open(os.path.join(folder, "large"), "ab") as file:
+                file.write(change)
+            status, lines, _ = run("save", repository, folder)
+            found += differences(((name, status), (name, 0)), (lines[-3], "47 files, 42 folders, 2 links")) + ([f"{name}: {new_bytes(lines)} bytes are new"] if new_bytes(lines) > most else [])
+        listed = run("list", repository)[1]
+        found += differences((len(listed), 3), (all(line.endswith("  " + folder) for line in listed), True), (run("list", repository, "latest")[1], sorted_paths(folder)))
+        return found + is_whole(repository, 3)
+
+
+def sorted_paths(folder):
+    """The paths in a folder as a list has them."""
+    found = []
+    for name in sorted(os.listdir(folder)):
+        path = os.path.join(folder, name)
+        below = sorted_paths(path) if os.path.isdir(path) and not os.path.islink(path) else []
+        found += [name.replace("\n", "\\n"), *(os.path.join(name, line) for line in below)]
+    return found
+
+
+def snapshots_by_name():
+    """By an address, its first digits, or as the latest one; of all or of one path; without what is excluded."""
+    with place_of() as (folder, repository, restored):
+        first = run("list", repository)[1][0].split()[0]
+        put(folder, "sub/new.o")
+        put(folder, "build/x/y")
+        second = address_in(run("save", "--exclude", "*.o", "--exclude", "build/*", "--exclude", "large", repository, folder)[1])
+        found = differences((run("restore", repository, first[:9], restored)[0], 0), (os.path.exists(os.path.join(restored, "build")), False))
+        found += differences((run("list", repository, second)[1], [path for path in sorted_paths(folder) if path not in ("large", "sub/new.o", "build/x", "build/x/y")]))
+        for path, wanted in ("sub/link", ["sub", "sub/link"]), ("many/7/", ["many", "many/7", "many/7/file"]), ("same", ["same"]):
+            target = os.path.join(restored, "one", path.replace("/", "-"))
+            found += differences((run("restore", repository, "latest", target, path), (0, [], [])), (sorted_paths(target), wanted))
+        for words, part in ((["restore", repository, "xyz", restored], "no snapshot xyz"), (["list", repository, ""], "several snapshots"), (["forget", repository, "0" * 64], "no snapshot")):
+            status, lines, errors = run(*words)
+            found += differences((status, 3), (lines, []), (len(errors), 1), (part in errors[0], True))
+        status, lines, _ = run("restore", repository, first, restored + "2", "no/such")
+        return found + differences((status, 1), (lines, ["not in the snapshot: no/such"])) + is_whole(repository, 2)
+
+
+def resumed_restores():
+    """A restore that is killed at any moment leaves no file in part, and the next one does what is missing. What differs is named, and left as it is."""
+    with place_of() as (folder, repository, restored):
+        found, rng, wanted = [], random.Random(3), state_of(folder)
+        for number in range(12):
+            with subprocess.Popen([*BACKUP, "restore", repository, "latest", restored], stdout=subprocess.DEVNULL) as process:
+                time.sleep(0.15 + rng.random() * 0.25)
+                process.kill()
+            for path, facts in state_of(restored).items() if os.path.isdir(restored) else ():
+                if stat.S_ISREG(facts[0]) and ".restoring" not in path and facts[4] != wanted[path][4]:
+                    found.append(f"{path} is there in part")
+            if number % 3 == 2:
+                found += differences((run("restore", repository, "latest", restored), (0, [], [])), (state_of(restored) == wanted, True))
+                shutil.rmtree(restored)
+        run("restore", repository, "latest", restored)
+        changed = put(restored, "many/3/file", b"mine")
+        os.remove(os.path.join(restored, "sub", "link"))
+        os.mkdir(os.path.join(restored, "sub", "link"))
+        shutil.rmtree(os.path.join(restored, "many", "4"))
+        os.symlink("5", os.path.join(restored, "many", "4"))
+        os.remove(os.path.join(restored, "same"))
+        os.chmod(restored, 0o711)
+        status, lines, _ = run("restore", repository, "latest", restored)
+        names = ["differs, and is left as it is: many/3/file", "not restored: many/4: not a directory", "differs, and is left as it is: sub/link"]
+        with open(changed, "rb") as file:
+            found += differences((status, 1), (lines, names), (file.read(), b"mine"), (stat.S_IMODE(os.stat(restored).st_mode), 0o711))
+        return found + differences((state_of(restored)["same"] == wanted["same"], True), (os.listdir(os.path.join(restored, "many", "5")), ["file"]))
+
+
+def killed_saves():
+    """Whenever a save is killed, earlier snapshots are whole, and the next save adds what is missing."""
+    with place_of() as (folder, repository, restored):
+        rng, found = random.Random(4), []
+        for number in range(12):
+            for name in range(20):
+                put(folder, f"new/{name}", rng.randbytes(100000))
+            with subprocess.Popen([*BACKUP, "save", repository, folder], stdout=subprocess.DEVNULL) as process:
+                time.sleep(0.15 + rng.random() * 0.2)
+                process.kill()
+            if number % 4 == 3:
+                found += is_whole(repository, len(run("list", repository)[1]))
+        found += differences((run("save", repository, folder)[0], 0), (run("restore", repository, "latest", restored)[0], 0), (state_of(restored) == state_of(folder), True))
+        return found + differences((set(os.listdir(repository)) - {"snapshots"}, {name for name in os.listdir(repository) if re.fullmatch("[0-9]{6}[.]log", name)}))
+
+
+def changed_byte(path, offset):
+    with open(path, "rb+") as file:
+        file.seek(offset)
+        byte = file.read(1)
+        file.seek(offset)
+        file.write(bytes([byte[0] ^ 4]))
+
+
+def damaged_objects():
+    """A damaged object is named, with what it is needed for; all else is restored; and a save of what has it repairs it. So is a damaged line of a log."""
+    with place_of() as (folder, repository, restored):
+        log = os.path.join(repository, "000001.log")
+        with open(log, "rb") as file:
+            content = file.read()
+        with open(os.path.join(folder, "many/7/file"), "rb") as file:
+            offset = content.index(file.read())
+        address = content[: offset - 1].split(b" ")[-2].decode()
+        changed_byte(log, offset + 5)
+        found = []
+        status, lines, _ = check(repository)
+        short = run("list", repository)[1][0][:8]
+        found += differences((status, 1), (lines[:2], [f"damaged: object {address} in 000001.log", f"snapshot {short} can't restore many/7/file"]), (lines[2].split(", ", 1)[1], "1 damaged; 1 snapshot, 1 broken"))
+        status, lines, _ = run("restore", repository, "latest", restored)
+        found += differences((status, 1), (lines, [f"not restored: many/7/file: object {address} in 000001.log is damaged"]))
+        found += differences((set(state_of(folder)) - set(state_of(restored)), {"many/7/file"}), (run("save", "--all", repository, folder)[0], 0))
+        found += is_whole(repository, 2) + differences((run("restore", repository, short, restored), (0, [], [])), (contents_of(restored) == contents_of(folder), True))
+        # a line: what follows it in the log can't be found, until a save adds it again
+        changed_byte(log, offset - 1)
+        status, lines, errors = run("list", repository)
+        found += differences((status, 1), (errors, []), (lines[0].startswith(f"{log} is damaged: it has no more objects from byte "), True), (len(lines), 3))
+        found += differences((run("forget", repository, "latest")[0], 3), (run("save", "--all", repository, folder)[0], 1), (run("restore", repository, "latest", restored + "2")[0], 1))
+        return found + differences((state_of(restored + "2") == state_of(folder), True))
+
+
+def damaged_snapshots():
+    """A damaged line of the snapshots is reported, and kept by a save; nothing is removed meanwhile. A list that names no file is no list."""
+    with place_of() as (folder, repository, restored):
+        run("save", repository, folder)
+        path = os.path.join(repository, "snapshots")
+        changed_byte(path, 20)
+        with open(path, "rb") as file:
+            damaged = file.read()
+        status, lines, _ = run("list", repository)
+        found = differences((status, 1), (lines[0], f"{path} has 1 damaged line"), (len(lines), 2), (run("forget", repository, "latest")[0], 3))
+        found += differences((run("save", repository, folder)[0], 1), (run("restore", repository, "latest", restored)[0], 1), (state_of(restored) == state_of(folder), True))
+        with open(path, "rb") as file:
+            return found + differences((file.read().startswith(damaged), True))
+
+
+def hostile_repositories():
+    """Whatever a list has, nothing is written outside, no link is followed, and no error is unforeseen."""
+    right = {"name": "f", "kind": "file", "mode": 0o644, "uid": os.geteuid(), "gid": os.getegid(), "mtime": 5, "size": 3}
+    with tempfile.TemporaryDirectory() as place:
+        outside, restored = os.path.join(place, "outside"), os.path.join(place, "restored")
+        os.mkdir(outside)
+        changes = [{"name": name} for name in ("", ".", "..", "../x", "/x", "a/b", "a\0b", "\ud800", 5, None, ["x"])] + [{"kind": kind} for kind in ("pipe", None, "folder", "link")]
+        changes += [{field: value} for field in ("mode", "uid", "gid", "mtime", "size") for value in (-1 if field != "mtime" else 1 << 63, 1 << 64, 1.5, "5", None, True)]
+        changes += [{"parts": parts} for parts in ("abc", [0], [-1], [True], ["abc"], [None], 5, [[]])] + [{"kind": "link", "target": target} for target in ("a\0b", 5, None)]
+        found = []
+        for change in [*changes, {"links": []}, {"size": 4}, {"size": 2}, {"parts": [1 << 62], "size": 1 << 62}, {}]:
+            repository = os.path.join(place, "repository")
+            os.mkdir(repository)
+            kept = backup.Repository(repository, fcntl.LOCK_EX)
+            entry = {**right, "parts": [kept.keep(b"abc")], **change}
+            top = {**right, "name": "top", "kind": "folder", "list": kept.keep(json.dumps([entry]).encode())}
+            address = kept.keep(json.dumps({"time": 1.5, "path": "/x", "top": top}).encode())
+            kept.set_snapshots([backup.checked_line(address)])
+            os.close(kept.folder)
+            for words in ["restore", repository, "latest", restored], ["list", repository, "latest"]:
+                status, lines, errors = run(*words)
+                is_bad = bool(change) and "links" not in change and words[0] == "restore"
+                found += [f"{change}: {words[0]}: {status} {lines} {errors}"] if len(errors) > 1 or any("Traceback" in line for line in errors) or is_bad != (words[0] == "restore" and status != 0) else []
+            found += differences(((change, os.listdir(outside)), (change, [])), ((change, sorted(os.listdir(place))), (change, ["outside", "repository", "restored"])))
+            shutil.rmtree(repository)
+            shutil.rmtree(restored, ignore_errors=True)
+        return found[:9]
+
+
+def planted_links():
+    """A link that someone has put where a file or folder is restored, or where a log is written, is not followed."""
+    with place_of() as (folder, repository, restored):
+        outside = os.path.join(os.path.dirname(folder), "outside")
+        os.mkdir(outside)
+        victim, found = put(outside, "victim", b"victim"), []
+        os.mkdir(restored)
+        os.symlink(outside, os.path.join(restored, "many"))
+        os.symlink(victim, os.path.join(restored, "large"))
+        aside = f".{blake3(b'same').hexdigest()[:16]}.restoring"
+        os.symlink(victim, os.path.join(restored, aside))
+        os.mkdir(os.path.join(restored, "sub"))
+        os.link(victim, os.path.join(restored, "sub", f".{blake3(b'none').hexdigest()[:16]}.restoring"))
+        status, lines, _ = run("restore", repository, "latest", restored)
+        found += differences((status, 1), (sorted(lines), ["differs, and is left as it is: large", "not restored: many: not a directory"]))
+        os.symlink(victim, os.path.join(repository, "log.new"))
+        os.symlink(victim, os.path.join(repository, "snapshots.new"))
+        put(folder, "new", b"new")
+        found += differences((run("save", repository, folder)[0], 0), (os.listdir(outside), ["victim"]))
+        os.symlink(victim, os.path.join(repository, "000009.log"))
+        status, lines, errors = run("list", repository)
+        found += differences((status, 3), (len(errors), 1), ("000009.log" in errors[0], True))
+        os.remove(os.path.join(repository, "000009.log"))
+        os.mkfifo(os.path.join(repository, "000009.log"))
+        found += differences((run("list", repository)[0], 0))
+        with open(victim, "rb") as file:
+            return found + differences((file.read(), b"victim"), (stat.S_IMODE(os.stat(victim).st_mode), 0o644))
+
+
+def swapped(module, name, when, change):
+    """A function of a module in whose place one calls `change` first, once, if `when` says so of its words."""
+    original, done = getattr(module, name), []
+
+    def call(*words, **how):
+        if not done and when(*words):
+            done.append(True)
+            change()
+        return original(*words, **how)
+
+    return mock.patch.object(module, name, call)
+
+
+def in_process(*words):
+    """Runs a command in this process. Returns its status and its lines."""
+    out = io.StringIO()
+    # the lock would be kept until this process ends
+    with mock.patch.object(sys, "argv", ["backup.py", *words]), contextlib.redirect_stdout(out), mock.patch.object(fcntl, "flock"):
+        status = backup.main()
+    return status, out.getvalue().splitlines()
+
+
+def replaced_while_it_runs():
+    """If a link or another file takes the place of a folder or a file while it is saved or restored, nothing is read or written where it leads."""
+    with place_of() as (folder, repository, restored):
+        outside = os.path.join(os.path.dirname(folder), "outside")
+        put(outside, "secret/file", b"secret")
+        found = []
+
+        def put_link(path, target):
+            def change():
+                os.rename(path, path + ".moved")
+                os.symlink(target, path)
+            return change
+
+        for name, target in ("many", os.path.join(outside, "secret")), ("sub/odd\n name", os.path.join(outside, "secret", "file")):
+            path = os.path.join(folder, name)
+            with swapped(os, "open", lambda opened, *_, base=os.path.basename(name), **how: opened == base, put_link(path, target)):
+                status, lines = in_process("save", repository, folder)
+            found += differences((status, 1), (len([line for line in lines if line.startswith("left out: " + name.replace("\n", "\\n"))]), 1))
+            os.unlink(path)
+            os.rename(path + ".moved", path)
+        with open(os.path.join(repository, max(name for name in os.listdir(repository) if name.endswith(".log"))), "rb") as file:
+            found += differences((b"secret" in file.read(), False))
+        first = run("list", repository)[1][0].split()[0]
+        with swapped(os, "open", lambda opened, *_, **how: opened == "many", put_link(os.path.join(restored, "many"), os.path.join(outside, "secret"))):
+            status, lines = in_process("restore", repository, first, restored)
+        found += differences((status, 1), (lines, ["not restored: many: not a directory"]), (os.listdir(os.path.join(outside, "secret")), ["file"]))
+        return found
+
+
+def changing_files():
+    """A file that changes while it is read is reported, and read again by the next save; one that has just changed is read again too."""
+    with place_of() as (folder, repository, restored):
+        path, found = os.path.join(folder, "large"), []
+        os.utime(path, ns=(7, 7))
+
+        def grow():
+            with open(path, "ab") as file:
+                file.write(b"more")
+
+        def shrink():
+            os.truncate(path, PART)
+
+        for change in grow, shrink:
+            with swapped(os, "pread", lambda number, length, at: at == PART and length == PART, change):
+                status, lines = in_process("save", "--exclude", "same", repository, folder)
+            found += differences((status, 1), (lines[0] in ("changed while it was read: large", "changed while it was read: sub/hard"), True))
+            status, lines, _ = run("save", repository, folder)
+            found += differences((status, 0), (run("restore", repository, "latest", restored)[0], 0), (state_of(restored) == state_of(folder), True))
+            shutil.rmtree(restored)
+            put(folder, "large", random.Random(9).randbytes(3 * PART))
+        before = os.stat(put(folder, "quick", b"one"))
+        in_process("save", repository, folder)
+        put(folder, "quick", b"two")
+        os.utime(os.path.join(folder, "quick"), ns=(before.st_atime_ns, before.st_mtime_ns))
+        run("save", repository, folder)
+        run("restore", repository, "latest", restored)
+        with open(os.path.join(restored, "quick"), "rb") as file:
+            return found + differences((file.read(), b"two")) + is_whole(repository, len(run("list", repository)[1]))
 
 
 def access_list(*entries):
@@ -238,210 +401,144 @@ def access_list(*entries):
     return struct.pack("<I", 2) + b"".join(struct.pack("<HHI", *entry) for entry in entries)
 
 
-NO_NUMBER = (1 << 32) - 1
-LIST = access_list((1, 6, NO_NUMBER), (2, 6, 12345), (4, 0, NO_NUMBER), (16, 6, NO_NUMBER), (32, 4, NO_NUMBER))
-"""An access list: a user other than the owner may read and write, the file's group nothing, and others read. The mode of a file with it is 664."""
+def attributes():
+    """Attributes are not saved, which is reported; without its access list, a file gives no one more."""
+    none = (1 << 32) - 1
+    value = access_list((1, 6, none), (2, 6, 12345), (4, 0, none), (16, 6, none), (32, 4, none))
+    with place_of() as (folder, repository, restored):
+        os.setxattr(os.path.join(folder, "same"), "user.note", b"x")
+        found = differences((run("save", repository, folder)[0], 0))
+        os.setxattr(os.path.join(folder, "large"), "system.posix_acl_access", value)
+        status, lines, _ = run("save", repository, folder)
+        found += differences((status, 1), (sorted(lines[:2]), ["saved without its access list: large", "saved without its access list: sub/hard"]))
+        found += differences((lines[2], "not saved: the extended attributes of 3 paths, as of large"), (run("restore", repository, "latest", restored)[0], 0))
+        return found + differences((stat.S_IMODE(os.stat(os.path.join(restored, "large")).st_mode), 0o600))
 
 
-def attributes_below(folder):
-    """The mode and the extended attributes of a folder and of what is in it."""
-    paths = {name: os.path.join(folder, name) for name in [".", *os.listdir(folder)]}
-    return {
-        name: (os.lstat(path).st_mode, {each: os.getxattr(path, each, follow_symlinks=False) for each in os.listxattr(path, follow_symlinks=False)})
-        for name, path in paths.items()
-    }
+def owners_that_cannot_be_set():
+    """Without an owner there is no setuid bit; a pipe and what can't be read are reported and left out."""
+    with place_of() as (folder, repository, restored):
+        os.mkfifo(os.path.join(folder, "pipe"))
+        status, lines, _ = run("save", repository, folder)
+        found = differences((status, 1), (lines[0], "left out: pipe: it is a pipe, a device or a socket"))
+        with mock.patch.object(os, "chown", side_effect=PermissionError(errno.EPERM, "Operation not permitted")):
+            status, lines = in_process("restore", repository, "latest", restored)
+        name = os.fsdecode(b"sub/\xff\xfe")
+        found += differences((status, 1), (len(lines), 1), (lines[0][2:], " owners couldn't be set; no setuid or setgid bits are set there"), (stat.S_IMODE(os.stat(os.path.join(restored, name)).st_mode), 0o711))
+        with mock.patch.object(os, "link", side_effect=PermissionError(errno.EPERM, "Operation not permitted")):
+            found += differences((in_process("restore", repository, "latest", restored + "2"), (0, [])))
+        return found + differences(({path: facts[:5] for path, facts in state_of(restored + "2").items()} == {path: facts[:5] for path, facts in state_of(folder).items() if path != "pipe"}, True))
 
 
-def keeps_attributes():
-    """Access lists and other attributes are restored, of a file that isn't read again too, and as they are when nothing else has changed."""
-    with tempfile.TemporaryDirectory() as place:
-        folder, repository = folder_of_abc(place)
-        path, below, restored = os.path.join(folder, "file"), os.path.join(folder, "below"), os.path.join(place, "restored")
-        os.mkdir(below)
-        os.symlink("file", os.path.join(folder, "link"))
+def forgets():
+    """What no other snapshot needs is removed, and all others are whole, whenever that is killed."""
+    with place_of() as (folder, repository, restored):
+        rng, found = random.Random(6), []
+        kept = state_of(folder)
+        for number in range(6):
+            put(folder, "changing", rng.randbytes(400000))
+            run("save", repository, folder)
+        sizes = [sum(os.path.getsize(os.path.join(repository, name)) for name in os.listdir(repository))]
+        names = [line.split()[0] for line in run("list", repository)[1]]
+        for name in names[1:4]:
+            with subprocess.Popen([*BACKUP, "forget", repository, name], stdout=subprocess.DEVNULL) as process:
+                time.sleep(0.15 + rng.random() * 0.1)
+                process.kill()
+            found += is_whole(repository, len(run("list", repository)[1]))
+        left = [line.split()[0] for line in run("list", repository)[1]]
+        status, lines, _ = run("forget", repository, *[name for name in left if name in names[1:]])
+        sizes.append(sum(os.path.getsize(os.path.join(repository, name)) for name in os.listdir(repository)))
+        found += differences((status, 0), (run("restore", repository, "latest", restored)[0], 0), (state_of(restored) == kept, True)) + is_whole(repository, 1)
+        return found + ([f"{sizes} bytes"] if sizes[0] - sizes[1] < 2300000 else []) + differences((run("forget", repository, "latest")[0], 0), (run("list", repository), (0, [], [])))
+
+
+def full_disks():
+    """A save or restore that can't write ends with a line or names what it couldn't do, and changes no earlier snapshot."""
+    def limit_files():
+        resource.setrlimit(resource.RLIMIT_FSIZE, (2000000, resource.RLIM_INFINITY))
+
+    with place_of() as (folder, repository, restored):
+        put(folder, "new", os.urandom(5000000))
+        status, lines, errors = run("save", repository, folder, preexec_fn=limit_files)
+        found = differences((status, 3), (errors, ["b3store: cannot write: file too large"])) + is_whole(repository, 1)
+        status, lines, _ = run("restore", repository, "latest", restored, preexec_fn=limit_files)
+        found += differences((status, 1), ([line for line in lines if not line.endswith(": file too large")], []), (sorted(set(state_of(folder)) - set(state_of(restored))), ["large", "new", "same", "sparse", "sub/hard"]))
+        return found + differences((run("save", repository, folder)[0], 0), (run("restore", repository, "latest", restored), (0, [], [])), (contents_of(restored) == contents_of(folder), True))
+
+
+def deep_folders():
+    """Folders in folders are saved and restored, up to some depth; deeper ones are reported."""
+    with place_of() as (folder, repository, restored):
+        before = os.open(".", os.O_RDONLY)
         try:
-            for each in path, below:
-                os.setxattr(each, "system.posix_acl_access", LIST)
-            os.setxattr(below, "system.posix_acl_default", LIST)
-            os.setxattr(folder, "user.a=b%", bytes(range(256)))
-            os.setxattr(path, "user.none", b"")
-            if os.geteuid() == 0:
-                os.setxattr(os.path.join(folder, "link"), "trusted.link", b"abc", follow_symlinks=False)
-        except OSError as fault:
-            print(f"skipped: attributes in {place}: {fault}")
-            return []
-        first, lines = backup("save", folder, repository)[1], backup("save", folder, repository)[1]
-        found = differences((backup("restore", repository, lines[-1].split()[1], restored), (0, [])), (attributes_below(restored), attributes_below(folder)))
-        found += differences((attributes_below(restored)["file"][0] & 0o777, 0o664), (backup("check", repository)[0], 0), (lines[-1], first[-1]))
-        os.removexattr(path, "user.none")
-        lines = backup("save", folder, repository)[1]
-        again = os.path.join(place, "again")
-        found += differences((backup("restore", repository, lines[-1].split()[1], again), (0, [])))
-        return found + differences((attributes_below(again), attributes_below(folder)))
-
-
-def links_to_its_own_files():
-    """A hard link of a file that isn't restored is reported, and not made of another file that has that name."""
-    with tempfile.TemporaryDirectory() as place:
-        folder, repository, restored = (os.path.join(place, name) for name in ("folder", "repository", "restored"))
-        for at, content in (folder, b"abc"), (restored, b"own"):
-            os.mkdir(at)
-            with open(os.path.join(at, "a"), "wb") as file:
-                file.write(content)
-        os.link(os.path.join(folder, "a"), os.path.join(folder, "b"))
-        lines = backup("save", folder, repository)[1]
-        told = ["not restored: a: file exists", "not restored: b: it is a hard link of a, which isn't restored"]
-        found = differences((backup("restore", repository, lines[-1].split()[1], restored), (1, told)), (os.listdir(restored), ["a"]))
-        with open(os.path.join(restored, "a"), "rb") as file:
-            return found + differences((file.read(), b"own"))
-
-
-FAILING_READ = f"""import sys; sys.path[:0] = {[os.path.join(TOP, name) for name in ("examples", "python")]!r}
-import backup, backup_repository
-read, reads = backup_repository.Repository.read, []
-def read_some(self, address):
-    reads.append(address)
-    if len(reads) == 5:
-        raise MemoryError
-    return read(self, address)
-backup_repository.Repository.read = read_some
-sys.exit(backup.main())"""
-
-
-def leaves_no_part_of_a_file():
-    """If memory ends in the middle of a file, the file is not left there in part."""
-    with tempfile.TemporaryDirectory() as place:
-        folder, repository, restored = (os.path.join(place, name) for name in ("folder", "repository", "restored"))
-        os.mkdir(folder)
-        with open(os.path.join(folder, "large"), "wb") as file:
-            file.write(random.Random(1).randbytes(4000000))
-        address = backup("save", folder, repository)[1][-1].split()[1]
-        words = [sys.executable, "-c", FAILING_READ, "restore", repository, address, restored]
-        run = subprocess.run(words, capture_output=True, timeout=SECONDS)
-        found = differences((run.returncode, 1), (run.stderr, b"backup: out of memory\n"), (os.listdir(restored), []))
-        return found + differences((backup("restore", repository, address, restored), (0, [])))
-
-
-def opens_what_it_has_seen():
-    """A file that something else has replaced meanwhile is not saved under its name: a link is not followed, and a pipe not waited for."""
-    with tempfile.TemporaryDirectory() as place:
-        path, other, found = os.path.join(place, "a"), os.path.join(place, "other"), []
-        with open(other, "wb") as file:
-            file.write(b"secret")
-        top = os.open(place, os.O_RDONLY)
-        before = len(os.listdir("/proc/self/fd"))
-        for replace in (lambda at: os.symlink(other, at)), os.mkfifo, (lambda at: shutil.copy(other, at)), os.mkdir:
-            with open(path, "wb") as file:
-                status = os.lstat(path)
-            with opened(top, "a", status) as file:
-                found += differences((file.read(), b""))
-                os.remove(path)
-                replace(path)
-                fault = raised(opened, top, "a", status)
-                found += differences((fault is not None and issubclass(fault, OSError), True))
-            os.rename(path, f"{path}.{len(os.listdir(place))}")
-        found += differences((len(os.listdir("/proc/self/fd")), before))
-        os.close(top)
-        return found
-
-
-DEPTH = 2500
-"""More folders in folders than Python's functions may call each other, and together a longer path than the system takes at once."""
-OPEN_FILES = 80
-"""How many files a program may have open that saves or restores them."""
-
-
-def in_deepest(folder, mode, visit):
-    """Opens the file `f` in the deepest folder of `d` in `d` in `d`... `visit` is called before each is opened, with its name and the folder that it is in."""
-    at = os.open(folder, os.O_RDONLY)
-    try:
-        for _ in range(DEPTH):
-            visit("d", dir_fd=at)
-            below = os.open("d", os.O_RDONLY, dir_fd=at)
-            os.close(at)
-            at = below
-        return open("f", mode, opener=lambda name, flags: os.open(name, flags, dir_fd=at))
-    finally:
-        os.close(at)
-
-
-def keeps_deep_folders():
-    """Folders in folders, and a file in the deepest and in the first of them, by a program that may open few files."""
-    with tempfile.TemporaryDirectory() as place:
-        folder, repository, restored = (os.path.join(place, name) for name in ("folder", "repository", "restored"))
-        os.mkdir(folder)
-        limited = ["sh", "-c", f"ulimit -n {OPEN_FILES}; exec \"$@\"", "sh", *BACKUP]
-        try:
-            with in_deepest(folder, "wb", os.mkdir) as file:
-                file.write(b"abc")
-            shutil.copy(os.path.join(TOP, "README.md"), os.path.join(folder, "d", "f"))
-            run = subprocess.run([*limited, "save", folder, repository], capture_output=True, timeout=2 * SECONDS)
-            lines = run.stdout.decode().splitlines()
-            found = differences((run.returncode, 0), (lines[0][:80], f"files 2 folders {DEPTH} links 0"))
-            run = subprocess.run([*limited, "restore", repository, lines[-1].split()[1], restored], capture_output=True, timeout=2 * SECONDS)
-            found += differences((run.returncode, 0), (run.stdout[:80], b""), (os.listdir(os.path.join(restored, "d")).count("f"), 1))
-            with in_deepest(restored, "rb", os.stat) as file:
-                return found + differences((file.read(), b"abc"))
+            os.chdir(folder)
+            for number in range(450):
+                os.mkdir("d")
+                os.chdir("d")
+                if number in (395, 449):
+                    put(".", "file", b"deep")
         finally:
-            subprocess.run(["rm", "-rf", folder, restored], check=True)
+            os.fchdir(before)
+            os.close(before)
+        status, lines, errors = run("save", repository, folder)
+        found = differences((status, 1), (errors, []), (len(lines), 4), (lines[0][-35:], ": the folders are nested too deeply"))
+        status, lines, errors = run("restore", repository, "latest", restored)
+        return found + differences((status, 0), (lines, []), (errors, []), (os.path.exists(os.path.join(restored, *["d"] * 396, "file")), True)) + is_whole(repository, 2)
 
 
-def prints_all_names():
-    """A line has the bytes of a path, whatever encoding Python is told to write."""
-    with tempfile.TemporaryDirectory() as place:
-        folder, repository = folder_of_abc(place)
-        os.mkfifo(os.path.join(os.fsencode(folder), b"\xc3\xa9\xff"))
+def locks():
+    """A save keeps other commands out, and a restore lets other restores in."""
+    with place_of() as (folder, repository, restored):
         found = []
-        for encoding in "utf-8", "latin-1", "ascii":
-            run = subprocess.run([*BACKUP, "save", folder, repository], capture_output=True, timeout=SECONDS, env={**os.environ, "PYTHONIOENCODING": encoding})
-            found += differences((run.returncode, 1), (run.stdout.split(b"\n")[0], b"left out: \xc3\xa9\xff: not a file, folder or link"), (run.stderr, b""))
+        for lock, statuses in (fcntl.LOCK_EX, (3, 3, 3)), (fcntl.LOCK_SH, (3, 0, 0)):
+            holding = os.open(repository, os.O_RDONLY)
+            fcntl.flock(holding, lock)
+            got = run("save", repository, folder), run("restore", repository, "latest", restored), check(repository)
+            os.close(holding)
+            found += differences((tuple(each[0] for each in got), statuses), (got[0][2], [f"b3store: {repository} is in use by another command"]))
         return found
 
 
-WAITING = f"""import sys; sys.path[:0] = {[os.path.join(TOP, name) for name in ("examples", "python")]!r}
-import time, b3store, backup
-b3store.Store.tenant = lambda *_: (open("begun", "w").close(), time.sleep(60))
-sys.exit(backup.main())"""
+def wrong_words():
+    """Wrong arguments, folders and programs end a run at once, with one line that has what is wrong."""
+    with place_of() as (folder, repository, restored):
+        file = os.path.join(folder, "large")
+        cases = (
+            (["save", repository, restored], 3, restored), (["save", file, folder], 3, file), (["save", repository, file], 3, file), (["save", repository, repository], 3, repository), (["check", restored], 3, restored),
+            (["restore", repository, "latest", file], 3, file), (["save", "", folder], 3, ""), (["restore", repository, "latest", ""], 3, ""), (["check", "--program", restored, repository], 3, restored),
+            (["frob", repository], 2, "'frob'"), (["save", repository], 2, "FOLDER"), ([], 2, "COMMAND"), (["list", repository, "a", "b"], 2, "b"),
+        )
+        found = []
+        for words, status, part in cases:
+            got, lines, errors = run(*words)
+            found += differences(((words, got, lines), (words, status, []))) + ([] if part in errors[-1] and (status == 2 or len(errors) == 1) else [f"{words}: {errors}"])
+        within = os.path.join(folder, "within")
+        status, lines, _ = run("save", within, folder)
+        found += differences((status, 0), (lines[0], "left out: within: it is the repository"))
+        status, lines, errors = run("list", repository, env={**os.environ, "B3STORE_LIBRARY": "/none"})
+        return found + differences((len(errors), 1), ("/none" in errors[0], True), (status, 1))
 
 
-def ends_with_a_sentence():
-    """Output that can't be written, and an interrupt, are reported in one line."""
-    with tempfile.TemporaryDirectory() as place:
-        folder, repository = os.path.join(place, "folder"), os.path.join(place, "repository")
-        os.mkdir(folder)
-        found = differences((backup("save", folder, repository)[0], 0))
-        for output, text in (">&-", "standard output is closed"), ("> /dev/full", "no space left on device"):
-            for words in ["check", repository], ["--help"]:
-                run = subprocess.run(["sh", "-c", f'"$@" {output}', "sh", *BACKUP, *words], stderr=subprocess.PIPE, timeout=SECONDS)
-                found += differences((run.returncode, 1), (run.stderr.decode(), f"backup: {text}\n"))
-        with subprocess.Popen([sys.executable, "-c", WAITING, "check", repository], cwd=place, stdout=subprocess.PIPE, stderr=subprocess.PIPE) as waiting:
-            while not os.path.exists(os.path.join(place, "begun")):
-                time.sleep(0.02)
-            time.sleep(0.5)
-            waiting.send_signal(signal.SIGINT)
-            out, err = waiting.communicate(timeout=SECONDS)
-        return found + differences((waiting.returncode, 130), (out, b""), (err, b"backup: interrupted\n"))
+def interrupts():
+    """Ctrl-C ends a run without a traceback, and leaves no file in part."""
+    with place_of() as (folder, repository, restored):
+        put(folder, "new", os.urandom(20000000))
+        found = []
+        for words in ["save", repository, folder], ["restore", repository, "latest", restored]:
+            for seconds in 0.2, 0.35:
+                with subprocess.Popen([*BACKUP, *words], stdout=subprocess.PIPE, stderr=subprocess.PIPE, preexec_fn=lambda: signal.signal(signal.SIGINT, signal.SIG_DFL)) as process:
+                    time.sleep(seconds)
+                    process.send_signal(signal.SIGINT)
+                    errors = process.communicate(timeout=SECONDS)[1]
+                found += differences((errors, b""), (process.returncode in (0, 130, -signal.SIGINT), True))
+            found += differences((run(*words)[0], 0))
+        return found + differences((state_of(restored) == state_of(folder), True)) + is_whole(repository, len(run("list", repository)[1]))
 
 
-def splits_by_content():
-    """Pieces end where a plain search finds an edge, wherever that is in the blocks that are searched at once, and if the file has grown."""
-    edges = re.compile(b"".join(b"[" + re.escape(bytes(sorted(chosen))) + b"]" for chosen in backup_pieces.EDGE_SETS), re.DOTALL)
-    edge, random_bytes = bytes(min(chosen) for chosen in backup_pieces.EDGE_SETS), random.Random(1).randbytes
-    smallest, largest, block = backup_pieces.MIN_PIECE, backup_pieces.MAX_PIECE, backup_pieces.BLOCK
-    lengths = [0, 4, smallest, *range(smallest + 4, smallest + 7), smallest + block - 1, smallest + block + 4, smallest + block + 5, largest - 1, largest, largest + 5]
-    contents = [random_bytes(length) for length in lengths] + [bytes(largest + extra) + random_bytes(largest) for extra in (-5, 0, 5)] + [edge * 60000]
-    for at in (smallest - 1, *(smallest + block * turn - back for turn in (0, 1, 2) for back in (5, 4, 3, 1, 0)), *range(largest - 6, largest + 1)):
-        contents.append(bytes(at) + edge + bytes(2 * largest - at))
-    found = []
-    for content in contents:
-        wanted, start = [], 0
-        while start < len(content):
-            last = min(len(content), start + largest)
-            match = edges.search(content, start + smallest, last)
-            wanted.append(content[start : match.end() if match else last])
-            start += len(wanted[-1])
-        for length in len(content), len(content) // 3:
-            pieces = list(backup_pieces.pieces_of(io.BytesIO(content), length))
-            if pieces != wanted:
-                found.append(f"{len(content)} bytes: pieces of {[len(piece) for piece in pieces][:5]} bytes, not {[len(piece) for piece in wanted][:5]}")
-    return found
+CASES = (
+    ("a backup", round_trip), ("a backup's snapshots", snapshots_by_name), ("restores that are killed", resumed_restores), ("saves that are killed", killed_saves),
+    ("a backup's damaged objects", damaged_objects), ("a backup's damaged snapshots", damaged_snapshots), ("hostile repositories", hostile_repositories), ("a backup and planted links", planted_links),
+    ("what is replaced while it is saved or restored", replaced_while_it_runs), ("files that change while they are saved", changing_files), ("a backup, and attributes", attributes),
+    ("a backup, and owners that can't be set", owners_that_cannot_be_set), ("snapshots that are removed", forgets), ("a backup on a full disk", full_disks), ("a backup of deep folders", deep_folders),
+    ("a backup's locks", locks), ("a backup's wrong words", wrong_words), ("a backup that is interrupted", interrupts),
+)

@@ -1,87 +1,101 @@
-"""Caches by examples/cache_server.py, and the programs that use them: examples/cluster.py and bench/ccache."""
+"""What examples/cache.py answers: keys, ranges, evictions, limits, and requests that are wrong by mistake or on purpose."""
 import contextlib
 import http.client
 import os
-import queue
-import re
-import shutil
-import signal
+import random
+import resource
 import socket
-import subprocess
-import sys
 import tempfile
 import time
-from unittest import mock
 
-from shared import ABC, FOUR, SECONDS, TOP, differences
-from servers import USERS, Cache, ask, free_port, is_answered, metrics, raw_answer, wait_until
-import cache_server
-
-
-def caches_keys():
-    with tempfile.TemporaryDirectory() as place, Cache(os.path.join(place, "cache"), USERS, ["--no-evict"]) as cache:
-        large = os.urandom(3000000)
-        found = differences(
-            (cache.ask("PUT", "/k", large, "token-a"), (201, b"")), (cache.ask("GET", "/k", token="token-a"), (200, large)),
-            (cache.ask("PUT", "/in-chunks", iter([large[:5], large[5:]]), "token-a", {"Transfer-Encoding": "chunked"}), (201, b"")),
-            (cache.ask("GET", "/in-chunks", token="token-a"), (200, large)), (cache.ask("HEAD", "/k", token="token-a"), (200, b"")),
-            (cache.ask("GET", "/k", token="token-b"), (404, b"")), (cache.ask("GET", "/k"), (401, b"")), (cache.ask("GET", "/k", token="token"), (401, b"")),
-            (cache.ask("PUT", "/k", large, "token-b"), (507, b"")), (cache.ask("PUT", "/k", large[:1500], "token-b"), (201, b"")),
-            (cache.ask("PUT", "/more", large[:501], "token-b"), (507, b"")), (cache.ask("PUT", "/more", large[:500], "token-b"), (201, b"")),
-            (cache.ask("PUT", "/none", b"", "token-b"), (201, b"")), (cache.ask("GET", "/none", token="token-b"), (200, b"")),
-            (cache.ask("PUT", "/no", iter([b"a"]), "token-b", {"Transfer-Encoding": "chunked"}), (507, b"")),
-            (cache.ask("PUT", "/k", large[1:1501], "token-b"), (507, b"")), (cache.ask("DELETE", "/k", token="token-b"), (204, b"")),
-            (cache.ask("DELETE", "/k", token="token-b"), (404, b"")), (cache.ask("PUT", "/k", large[1:1501], "token-b"), (201, b"")),
-            (cache.ask("PUT", "/x", None, "token-a", {"Content-Length": "x"}), (400, b"")), (without_length(cache.port), 411),
-        )
-    return found
+from resident import resident
+from servers import Cache, altered, chunked, status_of
+from shared import ABC, FOUR, SECONDS, differences, wait_until
 
 
-def told_of(cache, method, headers=(), key="/k"):
-    """The status of an answer, its content, and its headers of ranges and lengths."""
-    connection = http.client.HTTPConnection("127.0.0.1", cache.port, timeout=SECONDS)
-    try:
-        connection.request(method, key, None, dict(headers))
-        answer = connection.getresponse()
-        return answer.status, answer.read(), answer.headers["Content-Range"], answer.headers["Content-Length"]
-    finally:
-        connection.close()
+@contextlib.contextmanager
+def new_cache(*words, **how):
+    with tempfile.TemporaryDirectory() as place, Cache(os.path.join(place, "cache"), *words, **how) as cache:
+        yield cache
 
 
-def gives_ranges():
-    """One range of a content, and the whole one where the words are none of a range, or of several."""
-    with tempfile.TemporaryDirectory() as place, Cache(os.path.join(place, "cache")) as cache:
+def keys():
+    """Content of all lengths, known before or not, is given as it was stored; paths differ in any byte."""
+    with new_cache() as cache:
+        found, rng = [], random.Random(1)
+        for number, length in enumerate([0, 1, 4096, 1 << 20, (1 << 20) + 1, 5000001]):
+            content = rng.randbytes(length)
+            body, headers = chunked(content[: length // 3], content[length // 3 :]) if length else chunked()
+            found += differences((cache.put(f"/k{number}", content), 201), (cache.get(f"/k{number}") == content, True))
+            found += differences((cache.put("/chunks", body, headers=headers), 201), (cache.get("/chunks") == content, True))
+        for key in "/", "/a%20b", "/a%2520b", "/a?b", "/a?c", "/A", "/..", "/a/../b", "/%00", "/" + "x" * 1023:
+            found += differences((cache.put(key, key.encode()), 201))
+        for key in "/", "/a%20b", "/a%2520b", "/a?b", "/a?c", "/A", "/..", "/a/../b", "/%00", "/" + "x" * 1023:
+            found += differences((cache.get(key), key.encode()))
+        for byte in range(0x80, 0x100):
+            raw = b"/raw" + bytes([byte])
+            status = status_of(cache.raw(b"PUT %b HTTP/1.1\r\nContent-Length: 1\r\n\r\n%b" % (raw, bytes([byte]))))
+            got = cache.raw(b"GET %b HTTP/1.1\r\n\r\n" % raw)
+            found += differences((status, 201), (got[-1:], bytes([byte])))
+        found += differences((cache.put("/k1", b"new"), 201), (cache.get("/k1"), b"new"), (cache.ask("HEAD", "/k1"), (200, b"")), (cache.ask("DELETE", "/k1"), (204, b"")))
+        found += differences((cache.get("/k1"), 404), (cache.ask("DELETE", "/k1")[0], 404), (cache.ask("HEAD", "/k1"), (404, b"")), (cache.put("/" + "x" * 1024, b""), 414))
+        return found + differences((cache.put("/metrics", b""), 405), (cache.ask("DELETE", "/healthz")[0], 405), (cache.reports(), []))
+
+
+def ranges():
+    """One range of content, and all of it if the words are no range, or several."""
+    with new_cache() as cache:
         content = os.urandom(1000000)
-        cache.ask("PUT", "/k", content)
-        cache.ask("PUT", "/none", b"")
-        found = []
-        for words, first, end in ("0-0", 0, 1), ("5-9", 5, 10), ("999990-", 999990, 1000000), ("-7", 999993, 1000000), ("100000-700000", 100000, 700001), ("999999-2000000", 999999, 1000000), ("-2000000", 0, 1000000):
-            wanted = (206, content[first:end], f"bytes {first}-{end - 1}/1000000", str(end - first))
-            found += [f"{words} is given wrongly"] if told_of(cache, "GET", {"Range": f"bytes={words}"}) != wanted else []
+        found = differences((cache.put("/k", content), 201), (cache.put("/none", b""), 201))
+        for words, first, end in ("0-0", 0, 1), ("999990-", 999990, 1000000), ("-7", 999993, 1000000), ("100000-700000", 100000, 700001), ("999999-2000000", 999999, 1000000), ("-2000000", 0, 1000000):
+            status, got, headers = cache.answer("GET", "/k", headers={"Range": f"bytes={words}"})
+            found += differences((status, 206), (got == content[first:end], True), (headers["Content-Range"], f"bytes {first}-{end - 1}/1000000"))
         for words in "bytes=5-4", "bytes=0-1,5-6", "bytes=-", "lines=0-1", "bytes=a-b", "bytes=" + "9" * 5000 + "-", "":
-            found += [f"{words[:20]} is given wrongly"] if told_of(cache, "GET", {"Range": words}) != (200, content, None, "1000000") else []
+            status, got, headers = cache.answer("GET", "/k", headers={"Range": words})
+            found += differences((status, 200), (got == content, True), (headers["Content-Range"], None))
         for key, words, length in ("/k", "1000000-", 1000000), ("/k", "-0", 1000000), ("/none", "0-", 0), ("/none", "-5", 0):
-            found += differences((told_of(cache, "GET", {"Range": f"bytes={words}"}, key), (416, b"", f"bytes */{length}", "0")))
-        found += differences((told_of(cache, "HEAD", {"Range": "bytes=0-5"}), (200, b"", None, "1000000")))
-        other = {"Range": "bytes=0-5", "If-Range": f'"{ABC}"'}
-        return found + differences((told_of(cache, "GET", other)[0], 200), (cache.ask("GET", "/k")[1] == content, True))
+            status, got, headers = cache.answer("GET", key, headers={"Range": f"bytes={words}"})
+            found += differences((status, 416), (got, b""), (headers["Content-Range"], f"bytes */{length}"))
+        found += differences((cache.answer("HEAD", "/k", headers={"Range": "bytes=0-5"})[2]["Content-Length"], "1000000"))
+        return found + differences((cache.ask("GET", "/k", headers={"Range": "bytes=0-5", "If-Range": f'"{ABC}"'})[0], 200))
 
 
-def gives_what_is_new():
-    """A client that has the content gets no second copy."""
-    with tempfile.TemporaryDirectory() as place, Cache(os.path.join(place, "cache")) as cache:
-        cache.ask("PUT", "/k", b"abc")
-        found = []
+def tags():
+    """A client that has the content gets no second copy; conditions of changes are refused, and not ignored."""
+    with new_cache() as cache:
+        found = differences((cache.put("/k", b"abc"), 201), (cache.answer("GET", "/k")[2]["ETag"], f'"{ABC}"'))
         for method, content in ("GET", b"abc"), ("HEAD", b""):
-            for tags in f'"{ABC}"', f'W/"{ABC}"', f'"x", "{ABC}"', "*":
-                found += differences((told_of(cache, method, {"If-None-Match": tags}), (304, b"", None, None)))
-            for tags in f'"{FOUR}"', ABC, '"x"', "":
-                found += differences((told_of(cache, method, {"If-None-Match": tags}), (200, content, None, "3")))
-        return found + differences((told_of(cache, "GET", {"If-None-Match": "*"}, "/no")[0], 404), (cache.ask("GET", "/k"), (200, b"abc")))
+            for known in f'"{ABC}"', f'W/"{ABC}"', f'"x", "{ABC}"', "*":
+                found += differences((cache.ask(method, "/k", headers={"If-None-Match": known}), (304, b"")))
+            for known in f'"{FOUR}"', '"x"', "":
+                found += differences((cache.ask(method, "/k", headers={"If-None-Match": known}), (200, content)))
+        for name, value in ("If-Match", '"x"'), ("If-None-Match", "*"), ("Content-Range", "bytes 0-2/9"):
+            found += differences((cache.ask("PUT", "/k", b"new", {name: value})[0], 501), (cache.ask("DELETE", "/k", headers={name: value})[0], 501))
+        return found + differences((cache.get("/k"), b"abc"))
+
+
+def evictions():
+    """No more than is needed goes, and what was used least recently. A question for a key is a use of it. Keys may share content."""
+    with new_cache("--limit", "3500") as cache:
+        def kept():
+            return "".join(name for name in "abcdef" if cache.ask("HEAD", f"/{name}")[0] == 200)
+
+        def put(name, length, fill):
+            return cache.put(f"/{name}", bytes([fill]) * length)
+
+        found = differences(*[(put(name, 1000, at), 201) for at, name in enumerate("abc")], (cache.ask("GET", "/a")[0], 200))
+        found += differences((put("d", 1000, 3), 201), (kept(), "acd"), (put("e", 3501, 4), 413), (kept(), "acd"))
+        found += differences((put("e", 1000, 3), 201), (kept(), "cde"), (put("f", 2000, 5), 201), (kept(), "def"))
+        body, headers = chunked(bytes([9]) * 3400)
+        found += differences((cache.put("/b", body, headers=headers), 201), (kept(), "b"), (cache.get("/b"), bytes([9]) * 3400))
+        # keys without content take memory too
+        found += differences(*[(cache.put(f"/none{number}", b""), 201) for number in range(1001)])
+        counts = cache.metrics()
+        return found + differences((counts["keys"], 1000), (cache.get("/none0"), 404), (cache.get("/none1000"), b""), (kept(), ""), (counts["evictions_total"], 8))
 
 
 def begin_to_read(cache, key):
-    """A connection on which an answer comes, of which the headers and a little were read, and what was read. The system keeps little of what follows."""
+    """A connection on which an answer comes, of which the head and a little were read, and what was read. The system keeps little of what follows."""
     connection = socket.socket()
     connection.setsockopt(socket.SOL_SOCKET, socket.SO_RCVBUF, 1 << 16)
     connection.settimeout(SECONDS)
@@ -93,288 +107,191 @@ def begin_to_read(cache, key):
     return connection, read.partition(b"\r\n\r\n")[2]
 
 
-def gives_what_is_gone():
-    """A content that is being read is given whole, though its key is stored anew, deleted or evicted; then its room is free."""
-    with tempfile.TemporaryDirectory() as place, Cache(os.path.join(place, "cache"), words=["--limit", "70000000"]) as cache:
+def reads_of_what_goes():
+    """Content that is being read is given whole, though its key is stored anew, deleted or evicted, or all content moves; then its room is free."""
+    with new_cache("--limit", "70000000", server=altered(cache_content__MAX_ENTRIES=10)) as cache:
         found, large = [], os.urandom(32000000)
         changes = {"stored": ("PUT", "/k", b"abc"), "deleted": ("DELETE", "/k", None), "evicted": ("PUT", "/l", large[::-1] + bytes(6000000))}
         for name, change in changes.items():
-            found += differences((cache.ask("PUT", "/k", large)[0], 201))
+            found += differences((cache.put("/k", large), 201))
             connection, read = begin_to_read(cache, "/k")
             with connection:
                 found += differences((cache.ask(*change)[0], 204 if change[2] is None else 201))
+                before = cache.metrics()["renewals_total"]
+                found += differences(((name, wait_until(lambda: [cache.put(f"/x{at}", b"x") for at in range(20)] and cache.metrics()["renewals_total"] > before)), (name, True)))
                 read += b"".join(iter(lambda: connection.recv(1 << 20), b""))
             found += [f"{name}: {len(read)} bytes come"] if read != large else []
-        return found + differences((wait_until(lambda: cache.ask("PUT", "/all", bytes(70000000))[0] == 201), True))
+        return found + differences((wait_until(lambda: cache.put("/all", bytes(70000000)) == 201), True))
 
 
-def evicts_what_was_used_least_recently():
-    """No more than is needed, nothing where that isn't enough, what several keys have when the last of them goes, and the key's own content last. A
-    question for a key is a use of it."""
-    with tempfile.TemporaryDirectory() as place, Cache(os.path.join(place, "cache"), words=["--limit", "3500"]) as cache:
-        def kept():
-            return "".join(name for name in "abcdef" if cache.ask("HEAD", f"/{name}")[0] == 200)
-
-        def put(name, length, fill):
-            return cache.ask("PUT", f"/{name}", bytes([fill]) * length)[0]
-
-        found = differences(*[(put(name, 1000, at), 201) for at, name in enumerate("abc")], (cache.ask("GET", "/a")[0], 200))
-        found += differences((put("d", 1000, 3), 201), (kept(), "acd"), (put("e", 3501, 4), 507), (kept(), "acd"))
-        found += differences((put("e", 1000, 3), 201), (kept(), "cde"), (put("f", 2500, 5), 201), (kept(), "def"))
-        found += differences((put("a", 600, 8), 201), (kept(), "af"), (put("f", 3400, 6), 201), (kept(), "f"))
-        found += differences((put("f", 1000, 7), 201), *[(put(name, 1000, at), 201) for at, name in enumerate("bc")], (put("f", 1400, 8), 201), (kept(), "cf"))
-        found += differences((put("f", 3300, 7), 201), (kept(), "f"), (put("a", 200, 8), 201), (kept(), "af"))
-        in_chunks = cache.ask("PUT", "/b", iter([bytes([9]) * 3400]), None, {"Transfer-Encoding": "chunked"})
-        return found + differences((in_chunks[0], 201), (kept(), "b"), (cache.ask("GET", "/b"), (200, bytes([9]) * 3400)))
+def begin_to_put(cache, length, sent):
+    connection = socket.create_connection(("127.0.0.1", cache.port), timeout=SECONDS)
+    connection.sendall(b"PUT /slow HTTP/1.1\r\nContent-Length: %d\r\n\r\n" % length + sent)
+    return connection
 
 
-def reserves_as_a_body_grows():
-    """A body of unknown length doesn't take the quota that others need, and is whole though it outgrew what it had reserved."""
-    with tempfile.TemporaryDirectory() as place, Cache(os.path.join(place, "cache"), words=["--limit", "40000000", "--no-evict"]) as cache:
-        before, begun = metrics(cache)["journal_entries"], os.urandom(1 << 20)
-        slow = http.client.HTTPConnection("127.0.0.1", cache.port, timeout=SECONDS)
-        slow.putrequest("PUT", "/slow")
-        slow.putheader("Transfer-Encoding", "chunked")
-        slow.endheaders()
-        slow.send(b"%x\r\n%b\r\n" % (1 << 20, begun))
-        content, chunked = os.urandom(9500000), {"Transfer-Encoding": "chunked"}
-        pieces = [content[at : at + 70000] for at in range(0, len(content), 70000)]
-        found = differences((wait_until(lambda: metrics(cache)["journal_entries"] > before), True))
-        found += differences((cache.ask("PUT", "/other", bytes(10000000))[0], 201), (cache.ask("PUT", "/k", iter(pieces), None, chunked)[0], 201))
-        found += differences((cache.ask("GET", "/k")[1] == content, True))
-        slow.send(b"1\r\nd\r\n0\r\n\r\n")
-        found += differences((slow.getresponse().status, 201), (cache.ask("GET", "/slow") == (200, begun + b"d"), True))
-        slow.close()
-        found += differences((cache.ask("PUT", "/too-much", iter([*pieces, *pieces, *pieces]), None, chunked)[0], 507))
-        rest = 40000000 - 10000000 - len(content) - len(begun) - 1
-        found += differences((cache.ask("PUT", "/rest", bytes(rest + 1))[0], 507), (cache.ask("PUT", "/rest", bytes(rest))[0], 201))
-        return found + differences((cache.ask("GET", "/k")[1] == content, True))
-
-
-def without_length(port):
-    """The status of a request to store something whose length isn't told."""
-    connection = http.client.HTTPConnection("127.0.0.1", port, timeout=SECONDS)
-    connection.putrequest("PUT", "/x")
-    connection.putheader("Authorization", "Bearer token-a")
-    connection.endheaders()
-    status = connection.getresponse().status
-    connection.close()
-    return status
-
-
-def refuses_what_is_too_long():
-    with tempfile.TemporaryDirectory() as place, Cache(os.path.join(place, "cache"), words=["--most", "2000"]) as cache:
-        return differences(
-            (cache.ask("PUT", "/k", bytes(2001))[0], 413), (cache.ask("PUT", "/k", bytes(2000))[0], 201),
-            (cache.ask("PUT", "/k", iter([bytes(2001)]), None, {"Transfer-Encoding": "chunked"})[0], 413),
-            (cache.ask("PUT", "/k", iter([bytes(2000)]), None, {"Transfer-Encoding": "chunked"})[0], 201),
-        )
-
-
-def aborts_what_is_cut():
-    """An upload whose connection ends gives its reservation back."""
-    with tempfile.TemporaryDirectory() as place, Cache(os.path.join(place, "cache"), USERS) as cache:
-        for _ in range(3):
-            connection = http.client.HTTPConnection("127.0.0.1", cache.port, timeout=SECONDS)
-            connection.putrequest("PUT", "/k")
-            connection.putheader("Authorization", "Bearer token-b")
-            connection.putheader("Content-Length", "1500")
-            connection.endheaders()
-            connection.send(bytes(1200))
+def bodies_that_do_not_come():
+    """A length alone evicts nothing and takes no memory; a body that breaks off leaves nothing; and of too many, the next ones are refused and say so."""
+    with new_cache("--limit", "100000000", server=altered(cache__MAX_BODIES=2, cache__SECONDS_TO_TURN=0.1)) as cache:
+        found = differences((cache.put("/k", bytes(60000000)), 201))
+        before = resident(cache.process.pid)
+        slow = [begin_to_put(cache, 90000000, os.urandom(30000000)) for _ in range(2)]
+        found += differences((wait_until(lambda: cache.metrics()["received_bytes_total"] >= 2 * 29000000 + 60000000), True))
+        grown = resident(cache.process.pid) - before
+        found += [f"{grown} bytes are taken"] if grown > 30000000 else []
+        status, _, headers = cache.answer("PUT", "/other", b"abc")
+        found += differences((status, 503), (headers["Retry-After"], "1"), (len(cache.get("/k")), 60000000), (cache.put("/big", bytes(1 << 30)), 413))
+        for connection in slow:
             connection.close()
-        return differences((wait_until(lambda: cache.ask("PUT", "/k", bytes(1500), "token-b")[0] == 201), True))
+        found += differences((wait_until(lambda: cache.put("/other", b"abc") == 201), True), (cache.get("/slow"), 404), (sorted(os.listdir(cache.folder)), ["log"]))
+        return found + differences((cache.metrics()["evictions_total"], 0), (cache.reports(), []))
 
 
-def keeps_others_out():
-    """A second server on a folder ends at once, and says why."""
-    with tempfile.TemporaryDirectory() as place, Cache(os.path.join(place, "cache")) as cache:
-        words = [sys.executable, os.path.join(TOP, "examples", "cache_server.py"), cache.folder, "--port", "0"]
-        run = subprocess.run(words, capture_output=True, timeout=SECONDS)
-        return differences((run.returncode, 1), (run.stdout, b""), (run.stderr.decode(), f"cache_server: {cache.folder} is in use by another server\n"))
+def bodies_that_are_too_long():
+    with new_cache("--max-body", "2000") as cache:
+        pieces = [chunked(bytes(1500), bytes(501)), chunked(bytes(1500), bytes(500))]
+        found = differences((cache.put("/k", bytes(2001)), 413), (cache.put("/k", bytes(2000)), 201))
+        found += differences(*[(cache.put("/k", body, headers=headers), status) for (body, headers), status in zip(pieces, (413, 201))])
+        # the client receives the answer though it goes on to send
+        answer = cache.raw(b"PUT /k HTTP/1.1\r\nContent-Length: 9000000\r\n\r\n" + bytes(9000000))
+        return found + differences((status_of(answer), 413), (cache.put("/k", bytes(1 << 20)), 413), (cache.reports(), []))
 
 
-def lives_on_after_a_hang_up():
-    """Under nohup SIGHUP has no effect; otherwise it ends the server as SIGTERM does."""
-    found = []
-    for ignored in False, True:
-        before = signal.signal(signal.SIGHUP, signal.SIG_IGN if ignored else signal.SIG_DFL)
-        try:
-            with tempfile.TemporaryDirectory() as place, Cache(os.path.join(place, "cache")) as cache:
-                cache.ask("PUT", "/k", b"abc")
-                cache.process.send_signal(signal.SIGHUP)
-                has_ended = wait_until(lambda: cache.process.poll() is not None, 1 if ignored else SECONDS)
-                found += differences((has_ended, not ignored), (cache.stop()[0].count("saved 1 key"), 1), (cache.process.returncode, 0))
-        finally:
-            signal.signal(signal.SIGHUP, before)
-    return found
+WRONG = {
+    b"\r\n\r\n": None, b"x\r\n\r\n": 400, b"GET\r\n\r\n": 400, b"GET /k HTTP/2.0\r\n\r\n": 505, b"GET /k HTTP/x\r\n\r\n": 400, b"GET k HTTP/1.1\r\n\r\n": 400, b"GET /k /l HTTP/1.1\r\n\r\n": 400,
+    b"GET http://localhost/k HTTP/1.1\r\n\r\n": 400, b"PATCH /k HTTP/1.1\r\n\r\n": 501, b"POST /k HTTP/1.1\r\nContent-Length: 3\r\n\r\nabc": 501, b"OPTIONS * HTTP/1.1\r\n\r\n": 400,
+    b"GET /k HTTP/1.1\r\nno colon\r\n\r\n": 400, b"GET /k HTTP/1.1\r\nHost: a\r\nHost: localhost\r\n\r\n": 403, b"PUT /x HTTP/1.1\r\n\r\n": 411,
+    b"GET /" + b"k" * 70000 + b" HTTP/1.1\r\n\r\n": 414, b"GET /k HTTP/1.1\r\nA: " + b"k" * 70000 + b"\r\n\r\n": 431, b"GET /k HTTP/1.1\r\n" + b"A: b\r\n" * 101 + b"\r\n": 431,
+    b"PUT /x HTTP/1.1\r\nContent-Length: -1\r\n\r\n": 400, b"PUT /x HTTP/1.1\r\nContent-Length: 1_0\r\n\r\n": 400, b"PUT /x HTTP/1.1\r\nContent-Length: 3\r\nContent-Length: 4\r\n\r\nabcd": 400,
+    b"PUT /x HTTP/1.1\r\nContent-Length: 3, 3\r\n\r\nabc": 400, b"PUT /x HTTP/1.1\r\nContent-Length: 3\r\nTransfer-Encoding: chunked\r\n\r\n0\r\n\r\n": 400,
+    b"PUT /x HTTP/1.1\r\nTransfer-Encoding: gzip, chunked\r\n\r\n0\r\n\r\n": 501, b"PUT /x HTTP/1.1\r\nTransfer-Encoding: chunked\r\n\r\nx\r\n": 400,
+    b"PUT /x HTTP/1.1\r\nTransfer-Encoding: chunked\r\n\r\n3\r\nabcd\r\n0\r\n\r\n": 400, b"PUT /x HTTP/1.1\r\nTransfer-Encoding: chunked\r\n\r\n-3\r\nabc\r\n0\r\n\r\n": 400,
+    b"PUT /x HTTP/1.1\r\nTransfer-Encoding: chunked\r\n\r\n3\r\nabc\r\n0\r\n" + b"A: b\r\n" * 101: 400, b"PUT /x HTTP/1.1\r\nContent-Length: 9\r\n\r\nabc": 408,
+    b"PUT /x HTTP/1.1\r\nTransfer-Encoding: chunked\r\n\r\n9\r\nabc": 408, b"PUT /x HTTP/1.1\r\nTransfer-Encoding: chunked\r\n\r\n" + b"1" * 5000: 400,
+    # what follows a body that a method doesn't read is no request
+    b"GET /none HTTP/1.1\r\nContent-Length: 40\r\n\r\nPUT /x HTTP/1.1\r\nContent-Length: 1\r\n\r\nx": 404,
+    b"DELETE /none HTTP/1.1\r\nTransfer-Encoding: chunked\r\n\r\nPUT /x HTTP/1.1\r\nContent-Length: 1\r\n\r\nx": 404,
+}
 
 
-def looks_for_signals():
-    """Whether a signal has arrived is asked without a wait of no time: before Python 3.11 that may never end."""
-    waits = []
-
-    class Queue(queue.SimpleQueue):
-        def get(self, block=True, timeout=None):
-            waits.append(timeout if block else None)
-            return super().get(block, timeout)
-
-    with mock.patch.object(queue, "SimpleQueue", Queue):
-        stopping = cache_server.Stop()
-        found = differences((stopping.wait(0), False), (stopping.wait(0.01), False))
-        stopping.set()
-        return found + differences((stopping.wait(0), True), (stopping.wait(SECONDS), True), (waits, [None, 0.01, None, SECONDS]))
+def wrong_requests():
+    """Each is refused, changes nothing, and ends its connection; the cache reports none of them."""
+    with new_cache() as cache:
+        found = differences((cache.put("/k", b"abc"), 201))
+        for request, status in WRONG.items():
+            answer = cache.raw(request)
+            found += differences(((request[:60], status_of(answer)), (request[:60], status)), ((request[:60], answer.count(b"HTTP/1.1 ")), (request[:60], int(status is not None))))
+            found += [f"{request[:60]}: the connection isn't closed"] if status in (400, 408, 414, 431) and b"Connection: close" not in answer else []
+        rng = random.Random(7)
+        for _ in range(200):
+            cache.raw(rng.randbytes(rng.randrange(300)) + b"\r\n\r\n")
+        return found + differences((cache.get("/k"), b"abc"), (cache.get("/x"), 404), (cache.reports(), []))
 
 
-def refuses_wrong_words():
-    """Wrong arguments and users end the server at once, with one line that has what is wrong, and no token."""
-    with tempfile.TemporaryDirectory() as place, socket.create_server(("127.0.0.1", 0)) as taken:
-        found, port = [], str(taken.getsockname()[1])
-        users = {"short": b"ann s3cret\n", "digits": b"ann s3cret 5x\n", "high": b"ann s3cret 99999999999999\n", "twice": b"a t 5\na u 6\n", "both": b"a t 5\nb u 6\nc t 7\n", "bytes": b"a t 5\n\xff t 5\n", "greek": "a t 5\nλ t 5\n".encode(), "empty": b""}
-        for name, content in users.items():
-            with open(os.path.join(place, name), "wb") as file:
-                file.write(content)
-        cases = [(["--users", os.path.join(place, name)], 1, line) for name, line in (
-            ("short", "line 1"), ("digits", "line 1"), ("high", "line 1"), ("twice", "a name twice"), ("both", "a token twice"), ("bytes", "line 2"), ("greek", "line 2"), ("none", "none"), ("empty", "has no user"),
-        )]
-        cases += [([word, value], 2, repr(value)) for word, value in (
-            ("--port", "70000"), ("--port", "x"), ("--limit", "-1"), ("--most", "5x"), ("--max-keys", "0"), ("--journal-limit", "-1"),
-        )]
-        cases += [(["--port", port], 1, f"port {port}: address already in use")]
-        for words, status, part in cases:
-            command = [sys.executable, os.path.join(TOP, "examples", "cache_server.py"), os.path.join(place, "cache"), "--port", "0", *words]
-            run = subprocess.run(command, capture_output=True, timeout=SECONDS)
-            lines = run.stderr.decode().splitlines()
-            found += differences((run.returncode, status), (run.stdout, b""), (b"s3cret" in run.stderr, False))
-            found += [] if part in lines[-1] and (status == 2 or len(lines) == 1) else [f"{words}: {lines[-1]}"]
-        return found
+def hosts():
+    """A page of another name, which leads to the server's address, could send that name."""
+    with new_cache("--host", "127.0.0.1", "--host", "Builds.example") as cache:
+        def status(host):
+            return cache.ask("GET", "/healthz", headers={"Host": host})[0]
+
+        allowed = "localhost", "LOCALHOST:80", "127.0.0.1:8080", "[::1]:1", "10.0.0.1", "builds.EXAMPLE:8080"
+        refused = "evil.example", "localhost.evil", "builds.example.evil:80", "", "127.0.0.1.evil", "[x]"
+        return differences(*[(status(host), 200) for host in allowed], *[((host, status(host)), (host, 403)) for host in refused])
 
 
-def keys_of_any_bytes():
-    """A key of raw bytes is there after a new start."""
-    with tempfile.TemporaryDirectory() as place:
-        folder, key = os.path.join(place, "cache"), "/größe λ".replace(" ", "").encode() + b"\xff"
-        with Cache(folder) as cache:
-            put = raw_answer(cache.port, b"PUT " + key + b" HTTP/1.1\r\nContent-Length: 3\r\nConnection: close\r\n\r\nabc")
-        with Cache(folder) as cache:
-            got = raw_answer(cache.port, b"GET " + key + b" HTTP/1.1\r\nConnection: close\r\n\r\n")
-            return differences((put[:12], b"HTTP/1.1 201"), (got[:12], b"HTTP/1.1 200"), (got[-3:], b"abc"))
+def slow_clients():
+    """A request that arrives too slowly is ended, in its head or in its body; one that takes as long, and has more bytes, is not. So is a client that doesn't read."""
+    with new_cache(server=altered(cache__SECONDS_OF_REQUEST=1, cache__MIN_RATE=1 << 18, cache__SECONDS_TO_LEAVE=0.5)) as cache:
+        def sent(*pieces):
+            start = time.monotonic()
+            with socket.create_connection(("127.0.0.1", cache.port), timeout=SECONDS) as connection:
+                with contextlib.suppress(ConnectionError):
+                    for piece in pieces:
+                        connection.sendall(piece)
+                        time.sleep(0.2)
+                    return status_of(connection.recv(4096)), time.monotonic() - start
+            return None, time.monotonic() - start
+
+        head = b"PUT /k HTTP/1.1\r\nContent-Length: %d\r\n\r\n"
+        found = differences((cache.put("/large", os.urandom(60000000)), 201), (sent(head % 2000000, *[bytes(200000)] * 10)[0], 201))
+        for name, pieces in ("head", [b"GET /k HTTP/1.1\r\n", *[b"A: b\r\n"] * 60]), ("body", [head % 1000, *[bytes(10)] * 60]), ("idle", [b""]):
+            status, seconds = sent(*pieces)
+            found += differences(((name, status), (name, None if name == "idle" else status))) + ([f"{name}: it ends after {seconds} s"] if seconds > 8 else [])
+        found += differences((cache.get("/k") == bytes(2000000), True))
+        connection, read = begin_to_read(cache, "/large")
+        with connection:
+            found += differences((wait_until(lambda: cache.metrics()["connections"] == 1), True))
+            with contextlib.suppress(ConnectionError):
+                read += b"".join(iter(lambda: connection.recv(1 << 20), b""))
+        return found + (["a client that doesn't read is waited for"] if len(read) == 60000000 else []) + differences((cache.reports(), []))
 
 
-def put_too_much(port):
-    """Sends more of a PUT that is refused than a server reads."""
-    with socket.create_connection(("127.0.0.1", port)) as connection, contextlib.suppress(OSError):
-        connection.sendall(b"PUT /much HTTP/1.1\r\nHost: localhost\r\nContent-Length: 5000000000\r\n\r\n")
-        for _ in range(80):
-            connection.sendall(bytes(1 << 20))
+def many_connections():
+    """If there are too many, the one that has waited longest for a request is closed; one on which a body arrives isn't."""
+    with new_cache(server=altered(cache__MAX_CONNECTIONS=8)) as cache:
+        slow = begin_to_put(cache, 10, b"abc")
+        time.sleep(0.3)
+        idle = [socket.create_connection(("127.0.0.1", cache.port), timeout=SECONDS) for _ in range(30)]
+        found = differences((cache.put("/k", b"abc"), 201), (idle[0].recv(1), b""))
+        slow.sendall(b"defghij")
+        found += differences((status_of(slow.recv(4096)), 201), (cache.get("/slow"), b"abcdefghij"))
+        busy = [begin_to_put(cache, 10, b"abc") for _ in range(8)]
+        time.sleep(0.3)
+        found += differences((cache.raw(b"GET /k HTTP/1.1\r\n\r\n"), b""))
+        for connection in [slow, *idle, *busy]:
+            connection.close()
+        return found + differences((wait_until(lambda: cache.raw(b"GET /k HTTP/1.1\r\n\r\n")[-3:] == b"abc"), True), (cache.reports(), []))
 
 
-def finds_keys_again():
-    """After a stop each key is where it was, and after a refused PUT too: what was overwritten doesn't come back."""
-    found, before, keys = [], None, [f"/key{number}" for number in range(60)]
-    with tempfile.TemporaryDirectory() as place:
-        for content in b"one", b"two", b"three":
-            port = free_port()
-            words = [sys.executable, os.path.join(TOP, "examples", "cluster.py"), place, "--port", str(port), "--servers", "3"]
-            with subprocess.Popen(words, stdout=subprocess.PIPE) as cluster:
-                wait_until(lambda port=port: is_answered(port))
-                if before is not None:
-                    found += differences(({ask(port, "GET", key) for key in keys}, {(200, before)}))
-                found += differences(({ask(port, "PUT", key, b"old")[0] for key in keys}, {201}))
-                put_too_much(port)
-                found += differences(({ask(port, "PUT", key, content)[0] for key in keys}, {201}))
-                time.sleep(2.5)
-                found += differences(({ask(port, "GET", key) for key in keys}, {(200, content)}))
-                cluster.send_signal(signal.SIGTERM)
-            before = content
-    return found
+def connections_that_are_kept():
+    """A connection serves several requests, unless it is one of HTTP/1.0; a client that waits to be asked for its body is asked, once that will be read."""
+    with new_cache("--max-body", "1000") as cache:
+        connection = http.client.HTTPConnection("127.0.0.1", cache.port, timeout=SECONDS)
+        found = []
+        for method, key, body, status in ("PUT", "/k", b"abc", 201), ("GET", "/k", None, 200), ("HEAD", "/k", None, 200), ("GET", "/none", None, 404), ("DELETE", "/k", None, 204), ("GET", "/k", None, 404):
+            connection.request(method, key, body)
+            used = connection.sock
+            answer = connection.getresponse()
+            answer.read()
+            found += differences((answer.status, status), (connection.sock is used, True))
+        connection.close()
+        both = cache.raw(b"PUT /a HTTP/1.1\r\nContent-Length: 1\r\n\r\naGET /a HTTP/1.1\r\n\r\n")
+        found += differences((both.count(b"HTTP/1.1 "), 2), (both[-1:], b"a"), (b"Connection: close" in cache.raw(b"GET /a HTTP/1.0\r\nConnection: keep-alive\r\n\r\n", False), True))
+        asked = cache.raw(b"PUT /a HTTP/1.1\r\nContent-Length: 1\r\nExpect: 100-continue\r\n\r\nb")
+        refused = cache.raw(b"PUT /a HTTP/1.1\r\nContent-Length: 1001\r\nExpect: 100-continue\r\n\r\n")
+        return found + differences((status_of(asked), 100), (asked.count(b"HTTP/1.1 "), 2), (cache.get("/a"), b"b"), (status_of(refused), 413))
 
 
-def keys_at(port):
-    """How many keys the metrics of a server at a port have."""
-    return int(re.search(rb"(?m)^b3store_cache_keys ([0-9]+)$", ask(port, "GET", "/metrics")[1])[1])
+def counts():
+    """Metrics count what was done."""
+    with new_cache("--limit", "1M") as cache:
+        found = differences((cache.put("/a", b"abc"), 201), (cache.get("/a"), b"abc"), (cache.get("/b"), 404), (cache.ask("HEAD", "/a")[0], 200), (cache.ask("DELETE", "/b")[0], 404))
+        found += differences((cache.ask("GET", "/healthz"), (200, b"ok\n")))
+        values = cache.metrics()
+        wanted = {"hits_total": 2, "misses_total": 1, "received_bytes_total": 3, "sent_bytes_total": 3, "evictions_total": 0, "keys": 1, "limit_bytes": 1 << 20, "is_writable": 1}
+        wanted.update({f'requests_total{{method="{method}",status="{status}"}}': count for method, status, count in (("PUT", 201, 1), ("GET", 200, 2), ("GET", 404, 1), ("HEAD", 200, 1), ("DELETE", 404, 1))})
+        return found + differences(({name: values.get(name) for name in wanted}, wanted))
 
 
-def parts_the_keys():
-    """Of four servers one is taken away: the keys of the others are there, and its own can be stored again."""
-    with tempfile.TemporaryDirectory() as place:
-        port = free_port()
-        words = [sys.executable, os.path.join(TOP, "examples", "cluster.py"), os.path.join(place, "a folder; of"), "--port", str(port)]
-        with subprocess.Popen(words, stdout=subprocess.PIPE) as cluster:
-            cluster.stdout.readline()
-            servers, ports = ([int(word) for word in cluster.stdout.readline().decode().split()[2:]] for _ in range(2))
-            wait_until(lambda: is_answered(port))
-            keys = [f"/key{number}" for number in range(100)]
-            found = differences(({ask(port, "PUT", key, key.encode())[0] for key in keys}, {201}))
-            found += differences(({ask(port, "GET", key) == (200, key.encode()) for key in keys}, {True}))
-            found += differences(({ask(each, "GET", "/healthz") for each in (port, *ports)}, {(200, b"ok\n")}), (sum(keys_at(each) for each in ports), 100))
-            os.kill(servers[0], signal.SIGKILL)
-            kept = [key for key in keys if ask(port, "GET", key) == (200, key.encode())]
-            statuses = {ask(port, "PUT", key, key.encode())[0] for key in keys}
-            after = {ask(port, "GET", key) for key in keys}
-            cluster.send_signal(signal.SIGTERM)
-        found += differences((statuses, {201}), (after, {(200, key.encode()) for key in keys}))
-        return found if 50 <= len(kept) < 100 else [*found, f"{len(kept)} of 100 keys are kept"]
+def memory_that_ends():
+    """If the store gets no more memory, keys are evicted as for the limit; the cache goes on."""
+    def limit_memory():
+        resource.setrlimit(resource.RLIMIT_DATA, (400 << 20, 400 << 20))
+
+    with new_cache("--limit", "4G", preexec_fn=limit_memory) as cache:
+        statuses = {}
+        for number in range(60):
+            status = cache.put(f"/{number}", random.Random(number).randbytes(16 << 20))
+            statuses[status] = statuses.get(status, 0) + 1
+        counts_then = cache.metrics()
+        last = [number for number in range(60) if cache.get(f"/{number}") == random.Random(number).randbytes(16 << 20)]
+        found = differences((set(statuses) <= {201, 503, 507}, True), (counts_then["evictions_total"] > 0, True), (len(last) > 2, True), (cache.put("/small", b"abc"), 201))
+        return found + differences((cache.get("/small"), b"abc"), ([line for line in cache.reports() if "out of memory" not in line and "is written again" not in line], []))
 
 
-def ends_while_servers_start():
-    """A signal that arrives before all servers of a cluster have started ends it, with those that have; also Ctrl-C, which a terminal sends to all processes
-    of the job."""
-    found = []
-    for kill in f"os.kill(job, {signal.SIGTERM:d})", f"os.killpg(job, {signal.SIGINT:d})":
-        with tempfile.TemporaryDirectory() as place:
-            job = os.path.join(place, "job")
-            # each Python imports this; a server has the cluster's job ended
-            with open(os.path.join(place, "sitecustomize.py"), "w", encoding="ascii") as file:
-                file.write(f"import os\nif 'cache_server.py' in open('/proc/self/cmdline').read():\n    job = int(open({job!r}).read())\n    {kill}\n")
-            words = [sys.executable, os.path.join(TOP, "examples", "cluster.py"), os.path.join(place, "cache"), "--port", str(free_port())]
-            words = ["sh", "-c", 'echo $$ > "$0"; exec "$@"', job, *words]
-            run = subprocess.run(words, capture_output=True, timeout=SECONDS, start_new_session=True, env={**os.environ, "PYTHONPATH": place})
-            found += differences((run.returncode, 0), (run.stdout + run.stderr, b""))
-    return found
-
-
-def path_without_nginx(place):
-    """An environment in which a program that does nothing is found in place of nginx."""
-    with open(os.path.join(place, "nginx"), "w", encoding="ascii") as file:
-        file.write("#!/bin/sh\nexec sleep 600\n")
-    os.chmod(file.name, 0o700)
-    return {**os.environ, "PATH": f"{place}:{os.environ['PATH']}"}
-
-
-def begins_by_links():
-    """Links to the programs, in another folder, start them as their own paths do; a cluster finds the program of its servers."""
-    with tempfile.TemporaryDirectory() as place:
-        found, links = [], {name: os.path.join(place, name) for name in ("backup", "cache_server", "cluster")}
-        for name, link in links.items():
-            os.symlink(os.path.join(TOP, "examples", f"{name}.py"), link)
-            run = subprocess.run([sys.executable, link, "--help"], stdout=subprocess.DEVNULL, stderr=subprocess.PIPE, timeout=SECONDS)
-            found += differences((run.returncode, 0), (run.stderr, b""))
-        words = [sys.executable, links["cluster"], os.path.join(place, "cache"), "--servers", "1"]
-        with subprocess.Popen(words, stdout=subprocess.PIPE, stderr=subprocess.PIPE, env=path_without_nginx(place)) as cluster:
-            line = cluster.stdout.readline()
-            cluster.send_signal(signal.SIGTERM)
-            err = cluster.communicate(timeout=SECONDS)[1]
-        return found + differences((line, b"cluster: port 8080\n"), (cluster.returncode, 0), (err, b""))
-
-
-def tells_what_servers_lose():
-    """If a server can't save its content at the end, the cluster's status isn't that of success."""
-    with tempfile.TemporaryDirectory() as place:
-        path, found = path_without_nginx(place), []
-        words = [sys.executable, os.path.join(TOP, "examples", "cluster.py"), os.path.join(place, "cache"), "--servers", "2"]
-        for is_removed in False, True:
-            with subprocess.Popen(words, stdout=subprocess.PIPE, stderr=subprocess.PIPE, env=path) as cluster:
-                lines = [cluster.stdout.readline().decode() for _ in range(3)]
-                if is_removed:
-                    shutil.rmtree(os.path.join(place, "cache", "0"))
-                    ask(int(lines[2].split()[2]), "PUT", "/k", b"abc")
-                cluster.send_signal(signal.SIGTERM)
-                err = cluster.communicate(timeout=SECONDS)[1].decode()
-            found += differences((cluster.returncode, int(is_removed)), (err.startswith("cache_server: "), is_removed), (err.count("\n"), int(is_removed)))
-        return found
-
-
-def compiles_twice():
-    run = subprocess.run([os.path.join(TOP, "bench", "ccache"), "4"], stdout=subprocess.PIPE, timeout=SECONDS)
-    wanted = rb"cache_server.py: first [0-9.]+ s with 0 hits, second [0-9.]+ s with 4 hits, third [0-9.]+ s with 4 hits"
-    return [] if re.search(wanted, run.stdout) else [f"bench/ccache prints {run.stdout!r}"]
+CASES = (
+    ("a cache's keys", keys), ("a cache's ranges", ranges), ("a cache's tags", tags), ("a cache's evictions", evictions), ("a cache's content that goes while it is read", reads_of_what_goes),
+    ("a cache, and bodies that don't come", bodies_that_do_not_come), ("a cache, and bodies that are too long", bodies_that_are_too_long), ("a cache, and wrong requests", wrong_requests),
+    ("a cache's hosts", hosts), ("a cache's slow clients", slow_clients), ("a cache's many connections", many_connections), ("a cache's connections that are kept", connections_that_are_kept),
+    ("a cache's counts", counts), ("a cache whose memory ends", memory_that_ends),
+)

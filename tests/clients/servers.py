@@ -1,8 +1,7 @@
-"""Cache servers in processes of their own, and requests to them."""
-import contextlib
+"""Caches by examples/cache.py in processes of their own, and requests to them."""
+import errno
 import http.client
 import os
-import random
 import re
 import signal
 import socket
@@ -11,129 +10,104 @@ import sys
 
 from shared import SECONDS, TOP, wait_until
 
+SERVER = os.path.join(TOP, "examples", "cache.py")
+METRIC = re.compile(r"b3store_cache_(\w+(?:\{[^ ]*\})?) ([0-9]+)")
 
-SERVER = os.path.join(TOP, "examples", "cache_server.py")
+
+def altered(**constants):
+    """The words of a cache some of whose constants, given as MODULE__NAME, have other values; or a function that is called with the modules before it starts."""
+    before = constants.pop("before", "")
+    lines = [f"import sys; sys.path[:0] = {[os.path.join(TOP, name) for name in ('examples', 'python')]!r}", "import cache, cache_content"]
+    lines += [f"{name.replace('__', '.')} = {value!r}" for name, value in constants.items()]
+    return ["-c", "\n".join([*lines, before, "sys.exit(cache.main())"])]
 
 
 class Cache:
-    """A cache server in a process of its own, which has a group of its own, as a command at a terminal has."""
+    """A cache in a process of its own, in a group of its own as a command at a terminal has."""
 
-    def __init__(self, folder, users=None, words=(), server=(SERVER,)):
-        self.folder = folder
-        command = [sys.executable, *server, folder, "--port", "0", *words]
-        if users is not None:
-            path = os.path.join(os.path.dirname(folder), "users")
-            with open(path, "w", encoding="utf-8") as file:
-                file.write(users)
-            command += ["--users", path]
-        self.process = subprocess.Popen(command, stdout=subprocess.PIPE, stderr=subprocess.PIPE, start_new_session=True)
-        self.begun, self.told = self.process.stdout.readline().decode(), None
-        self.port = int(self.begun.split("port ")[1].split(",")[0])
+    def __init__(self, folder, *words, server=(SERVER,), loads=True, **how):
+        self.folder, self.path = folder, folder + ".reports"
+        with open(self.path, "wb") as reports:
+            self.process = subprocess.Popen([sys.executable, *server, folder, "--port", "0", *words], stdout=subprocess.PIPE, stderr=reports, start_new_session=True, **how)
+        if not wait_until(lambda: self.process.poll() is not None or self.found("port ([0-9]+)\n" if not loads else "loaded [0-9]+ keys?\n")):
+            raise ValueError("the cache doesn't start")
+        port = self.found("port ([0-9]+)\n")
+        self.port = int(port[1]) if port else None
+
+    def found(self, expression):
+        return re.search(f"cache: {expression}", self.text())
+
+    def text(self):
+        with open(self.path, encoding="utf-8", errors="surrogateescape") as file:
+            return file.read()
+
+    def reports(self):
+        """What it has reported beside its start."""
+        return [line for line in self.text().splitlines() if not re.fullmatch("cache: (port [0-9]+|loaded [0-9]+ keys?)", line)]
 
     def __enter__(self):
         return self
 
     def __exit__(self, *_):
-        self.stop()
+        self.stop(signal.SIGKILL)
 
-    def stop(self, end=lambda process: process.send_signal(signal.SIGTERM)):
-        """Ends it, and gives what it told since its beginning, also if it is called again."""
-        if self.told is None:
-            end(self.process)
-            out, err = self.process.communicate(timeout=SECONDS)
-            self.told = out.decode(), err.decode()
-        return self.told
+    def stop(self, number=signal.SIGTERM):
+        """Ends it by a signal, and returns its status, and what it wrote to standard output."""
+        if self.process.poll() is None:
+            self.process.send_signal(number)
+        return self.process.wait(SECONDS), self.process.stdout.read()
 
-    def ask(self, method, key, body=None, token=None, headers=()):
-        return ask(self.port, method, key, body, token, headers)
+    def ask(self, method, key, body=None, headers=()):
+        """The status and the content of an answer."""
+        return self.answer(method, key, body, headers)[:2]
 
+    def answer(self, method, key, body=None, headers=()):
+        """The status, the content and the headers of an answer."""
+        connection = http.client.HTTPConnection("127.0.0.1", self.port, timeout=SECONDS)
+        try:
+            connection.request(method, key, body, dict(headers), encode_chunked=body is not None and not isinstance(body, bytes))
+            answer = connection.getresponse()
+            return answer.status, answer.read(), answer.headers
+        finally:
+            connection.close()
 
-def ask(port, method, key, body=None, token=None, headers=()):
-    """The status and the content of an answer."""
-    connection = http.client.HTTPConnection("127.0.0.1", port, timeout=SECONDS)
-    try:
-        sent = dict(headers) if token is None else {**dict(headers), "Authorization": f"Bearer {token}"}
-        connection.request(method, key, body, sent, encode_chunked=body is not None and not isinstance(body, bytes))
-        answer = connection.getresponse()
-        return answer.status, answer.read()
-    finally:
-        connection.close()
+    def put(self, key, body, **how):
+        return self.ask("PUT", key, body, **how)[0]
 
+    def get(self, key):
+        """The content of a key, or the status if there is none."""
+        status, content = self.ask("GET", key)
+        return content if status == 200 else status
 
-USERS = "ann token-a 10000000\nbob token-b 2000\n"
+    def raw(self, request, ends=True):
+        """What it answers to the bytes of a request, until it closes the connection; by default the client says that it sends no more."""
+        with socket.create_connection(("127.0.0.1", self.port), timeout=SECONDS) as connection:
+            try:
+                connection.sendall(request)
+                if ends:
+                    connection.shutdown(socket.SHUT_WR)
+                return b"".join(iter(lambda: connection.recv(1 << 16), b""))
+            except OSError as error:
+                if error.errno not in (errno.ECONNRESET, errno.EPIPE, errno.ENOTCONN):
+                    raise
+                return b""
 
-
-def free_port():
-    """A port that is free, and that the system gives to no connection meanwhile, unless it gives them nearly all ports."""
-    with open("/proc/sys/net/ipv4/ip_local_port_range", encoding="ascii") as numbers:
-        first = int(numbers.read().split()[0])
-    for port in random.sample(range(5000, max(first, 10000)), 100):
-        with contextlib.suppress(OSError), socket.socket() as it:
-            it.bind(("127.0.0.1", port))
-            return port
-    raise OSError("no port is free")
-
-
-def is_answered(port):
-    """Whether something answers requests at a port."""
-    with contextlib.suppress(OSError):
-        return bool(ask(port, "GET", "/"))
-    return False
-
-
-def raw_answer(port, request):
-    """What a server answers to the bytes of a request, after which the connection is closed."""
-    with socket.create_connection(("127.0.0.1", port), timeout=SECONDS) as connection:
-        connection.sendall(request)
-        return b"".join(iter(lambda: connection.recv(4096), b""))
-
-
-METRIC = re.compile(r"b3store_cache_(\w+(?:\{[^ ]*\})?) ([0-9]+)")
+    def metrics(self):
+        """Its counts, by name and labels. Each name has its type before it."""
+        lines = self.ask("GET", "/metrics")[1].decode().splitlines()
+        values = {found[1]: int(found[2]) for found in map(METRIC.fullmatch, lines) if found}
+        typed = {line.split()[2][len("b3store_cache_") :] for line in lines if line.startswith("# TYPE ")}
+        if len(values) + len(typed) != len(lines) or {name.partition("{")[0] for name in values} != typed:
+            raise ValueError(f"the metrics are {lines}")
+        return values
 
 
-def metrics(cache):
-    """The metrics of a cache, by name and labels. Each must follow its two comments."""
-    connection = http.client.HTTPConnection("127.0.0.1", cache.port, timeout=SECONDS)
-    try:
-        connection.request("GET", "/metrics")
-        answer = connection.getresponse()
-        lines = answer.read().decode().split("\n")
-    finally:
-        connection.close()
-    if (answer.status, answer.headers["Content-Type"], lines.pop()) != (200, "text/plain; version=0.0.4; charset=utf-8", ""):
-        raise ValueError(f"the metrics are {answer.status} {answer.headers['Content-Type']}")
-    values, kinds = {}, {}
-    for line in lines:
-        if line.startswith("# TYPE "):
-            _, _, name, kinds[name] = line.split(" ")
-        elif not line.startswith("# HELP "):
-            name, value = METRIC.fullmatch(line).groups()
-            is_counter = name.partition("{")[0].endswith("_total")
-            if kinds["b3store_cache_" + name.partition("{")[0]] != ("counter" if is_counter else "gauge"):
-                raise ValueError(f"{name} has a wrong type")
-            values[name] = int(value)
-    return values
+def chunked(*pieces):
+    """The body and the headers of a request whose body comes in chunks."""
+    return iter(pieces), {"Transfer-Encoding": "chunked"}
 
 
-class SlowPut:
-    """An upload of which the first bytes are sent, and the others when it is ended."""
-
-    def __init__(self, cache, key, content, headers):
-        self.connection, self.content, self.is_chunked = http.client.HTTPConnection("127.0.0.1", cache.port, timeout=SECONDS), content, "Content-Length" not in headers
-        self.connection.putrequest("PUT", key)
-        for name, value in headers.items():
-            self.connection.putheader(name, value)
-        self.connection.endheaders()
-        self.send(content[: 3 << 19])
-
-    def send(self, content):
-        self.connection.send(b"%x\r\n%b\r\n" % (len(content), content) if self.is_chunked else content)
-
-    def end(self):
-        """Sends the other bytes, and returns the status."""
-        self.send(self.content[3 << 19 :])
-        if self.is_chunked:
-            self.send(b"")
-        status = self.connection.getresponse().status
-        self.connection.close()
-        return status
+def status_of(answer):
+    """The status in the bytes of an answer; None if there is none."""
+    found = re.match(rb"HTTP/1\.1 ([0-9]{3}) ", answer)
+    return int(found[1]) if found else None

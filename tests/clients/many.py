@@ -1,0 +1,119 @@
+"""Several caches behind nginx, by the files of share/; and what compiles through a cache."""
+import contextlib
+import glob
+import http.client
+import os
+import re
+import shutil
+import signal
+import socket
+import subprocess
+import sys
+import tempfile
+import time
+
+from servers import Cache
+from shared import SECONDS, TOP, differences, wait_until
+sys.path.insert(1, os.path.join(TOP, "bench"))
+from cache_servers import free_port, front_words
+
+SHARE = os.path.join(TOP, "share")
+KEYS = 400
+
+
+class Nginx:
+    """nginx with the configuration of share/, for caches at other ports."""
+
+    def __init__(self, place, ports):
+        self.place, self.port = place, free_port()
+        self.process = subprocess.Popen(front_words(place, self.port, ports))
+        if not wait_until(lambda: self.ask("GET", "/healthz")[0] == 200):
+            raise ValueError("nginx doesn't start")
+
+    def change(self, ports):
+        """Reads the configuration for other ports."""
+        front_words(self.place, self.port, ports)
+        self.process.send_signal(signal.SIGHUP)
+        time.sleep(1)
+
+    def ask(self, method, key, body=None):
+        connection = http.client.HTTPConnection("127.0.0.1", self.port, timeout=SECONDS)
+        try:
+            connection.request(method, key, body)
+            answer = connection.getresponse()
+            return answer.status, answer.read()
+        except OSError:
+            return None, b""
+        finally:
+            connection.close()
+
+    def stop(self):
+        self.process.terminate()
+        self.process.wait(SECONDS)
+
+
+def places_of(caches, keys):
+    """Which cache has each key."""
+    return {key: [at for at, cache in enumerate(caches) if cache.process.poll() is None and cache.get(key) != 404] for key in keys}
+
+
+def several_caches():
+    """Each key is in one of four caches. If one is killed, its keys are stored in others, and all other keys are found; a fifth one takes about a fifth of the keys."""
+    with tempfile.TemporaryDirectory() as place, contextlib.ExitStack() as ending:
+        caches = [ending.enter_context(Cache(os.path.join(place, str(number)))) for number in range(4)]
+        nginx = Nginx(os.path.join(place, "nginx"), [cache.port for cache in caches])
+        ending.callback(nginx.stop)
+        keys = [f"/ac/{number}" for number in range(KEYS)]
+        found = differences(*[(nginx.ask("PUT", key, key.encode())[0], 201) for key in keys])
+        before = places_of(caches, keys)
+        found += differences(({len(at) for at in before.values()}, {1}))
+        counts = [sum(at == [number] for at in before.values()) for number in range(4)]
+        found += [f"the caches have {counts} keys"] if min(counts) < KEYS // 8 else []
+        large = os.urandom(5000000)
+        found += differences((nginx.ask("PUT", "/large", large)[0], 201), (nginx.ask("GET", "/large")[1] == large, True))
+        caches[0].stop(signal.SIGKILL)
+        statuses = {key: nginx.ask("GET", key) for key in keys}
+        found += differences(({key for key, (status, _) in statuses.items() if status == 404}, {key for key, at in before.items() if at == [0]}))
+        found += differences(({status for status, _ in statuses.values()}, {200, 404}), ({nginx.ask("PUT", key, key.encode())[0] for key in keys}, {201}))
+        found += differences(({nginx.ask("GET", key) == (200, key.encode()) for key in keys}, {True}))
+        # the same cache again, at another port, and a fifth one
+        caches[0] = ending.enter_context(Cache(os.path.join(place, "again")))
+        caches.append(ending.enter_context(Cache(os.path.join(place, "fifth"))))
+        nginx.change([cache.port for cache in caches[1:]])
+        after = {key: nginx.ask("GET", key)[0] for key in keys}
+        moved = sum(status == 404 for status in after.values())
+        return found + ([f"{moved} of {KEYS} keys have moved"] if not KEYS // 10 < moved < KEYS // 2 else [])
+
+
+def units():
+    """What share/ has for caches is short, and the unit's command line is one that the cache takes."""
+    with open(os.path.join(SHARE, "b3store-cache@.service"), encoding="ascii") as file:
+        unit = file.read()
+    command = re.search("ExecStart=(.*)", unit)[1].split()
+    with tempfile.TemporaryDirectory() as place:
+        words = [os.path.join(TOP, "examples", "cache.py") if word.endswith("/cache.py") else word.replace("%S", place).replace("%i", str(free_port())) for word in command[1:]]
+        notified = os.path.join(place, "notify")
+        with socket.socket(socket.AF_UNIX, socket.SOCK_DGRAM) as listening:
+            listening.bind(notified)
+            listening.settimeout(SECONDS)
+            os.makedirs(os.path.join(place, "b3store-cache"))
+            with subprocess.Popen([sys.executable, *words], stderr=subprocess.PIPE, env={**os.environ, "NOTIFY_SOCKET": notified}) as process:
+                found = differences((listening.recv(100), b"READY=1"))
+                process.terminate()
+                found += differences((process.wait(SECONDS), 0), (listening.recv(100), b"STOPPING=1"))
+        lines = [len(open(path, encoding="ascii").readlines()) for path in glob.glob(os.path.join(SHARE, "b3store-cache*"))]
+        return found + differences((len(lines), 2), (max(lines) < 30, True))
+
+
+def compiles_twice():
+    """What is compiled again through a cache comes from it."""
+    run = subprocess.run([sys.executable, os.path.join(TOP, "bench", "ccache"), "8"], stdout=subprocess.PIPE, stderr=subprocess.PIPE, timeout=SECONDS)
+    line = next((line for line in run.stdout.decode().splitlines() if line.startswith("cache.py")), "")
+    return differences((run.returncode, 0), (re.findall("with ([0-9]+) hits", line), ["0", "8", "8"]))
+
+
+CASES = (
+    ("the files of share/ for caches", units),
+    *((("four caches behind nginx", several_caches),) if shutil.which("nginx") else ()),
+    *((("a compiler with a cache", compiles_twice),) if shutil.which("ccache") else ()),
+)
