@@ -148,8 +148,8 @@ def move(source: "Transfers", target: "Transfers") -> None:
 
 def renew(store: "Store") -> "Store":
     """Moves what a `Store` has to a new one, whose journal is short, and closes it. The new one has the same tenants, limits and objects, in the same order;
-    open uploads are lost. Besides the journals, memory is needed for one more object. No other thread may use the store meanwhile. If anything is raised, as
-    for S14, the objects are moved back, and the store can be used further."""
+    open uploads are lost. Besides the journals, memory is needed for one more object. No other thread may change the store meanwhile, and one that reads may be
+    refused with S12. If anything is raised, as for S14, the objects are moved back, and the store can be used further."""
     new = type(store)()
     try:
         for _, usage in sorted(store.tenants().items()):
