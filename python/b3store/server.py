@@ -35,7 +35,7 @@ from .console import number, one_line, open_standard_files, size
 from .listening import Listener, ListenError, inherited, listen_at, more_time, notify
 from .redo_log import RedoLog, SaveError, reason_of
 from .relay import Connection
-from .server_store import StoreProcess, status_text
+from .server_store import SECONDS_OF_SILENCE, StoreProcess, status_text
 from .values import MAX_SESSIONS, StoreError, half_of_memory
 
 NAME = "b3store.server"
@@ -215,8 +215,7 @@ class Server:
         while True:
             status = self._store.status()
             if status is not None:
-                lost = "everything in it is lost" + (", except for what its log has" if self._log else "")
-                report(f"the store ended with {status_text(status)}; {lost}")
+                report(f"the store ended with {status_text(status)}; {self._lost()}")
                 return 3
             now, pause = time.monotonic(), SECONDS_AT_REST
             if self._deadline is not None:
@@ -232,6 +231,10 @@ class Server:
                 else:
                     self._accept(key.data)
 
+    def _lost(self) -> str:
+        """What is lost with the store."""
+        return "everything in it is lost" + (", except for what its log has" if self._log else "")
+
     def _end(self) -> Optional[int]:
         """Ends the clients and the store, and returns the exit status; None if the store can't be saved yet."""
         cut = self._connections.count()
@@ -241,7 +244,9 @@ class Server:
         if fault and self._tries_again(fault):
             return None
         status = self._store.end()
-        if status:
+        if self._store.was_silent:
+            report(f"the store did not answer for {SECONDS_OF_SILENCE:.0f} s, and was killed; {self._lost()}")
+        elif status:
             report(f"the store ended with {status_text(status)}")
         return 4 if fault else 3 if status else 0
 
@@ -249,7 +254,8 @@ class Server:
         """Ends the clients, and saves the store. Returns why that failed, if it did. A signal doesn't interrupt it."""
         self._connections.end_all(self._more_time)
         try:
-            write_line(sys.stdout, f"saved {log.finish(self._store, self._more_time)}")
+            with self._store.killed_if_silent(self._more_time) as tick:
+                write_line(sys.stdout, f"saved {log.finish(self._store, tick)}")
             return ""
         except Exception as error:  # whatever it is, the store is kept
             return str(error) if isinstance(error, SaveError) else f"the store can't be saved: {reason_of(error)}"

@@ -13,7 +13,7 @@ import subprocess
 import tempfile
 import threading
 import time
-from typing import Callable, List, NamedTuple, Optional, TypeVar
+from typing import Callable, Iterator, List, NamedTuple, Optional, TypeVar
 
 from .files import FolderInUse, lock_folder
 from .sessions import Session, set_pipe_size
@@ -28,6 +28,8 @@ SECONDS_TO_END = 30.0
 """How long the program may take to exit once its standard input is closed."""
 SECONDS_TO_ANSWER = 1.0
 """How long the server waits at its end for the answers to its own commands."""
+SECONDS_OF_SILENCE = 60.0
+"""How long it then waits for the next piece of an answer, before it kills the process."""
 SECONDS_TO_SEE = 0.5
 MAX_PIPE_BYTES = 1 << 20
 MAX_PIPES_BYTES = 1 << 25
@@ -74,7 +76,7 @@ class StoreProcess(Transfers):
         """Makes the temporary folder of the door."""
         self._numbers = itertools.count(1)
         self._lock = threading.Lock()
-        self._is_started = self._is_closing = self._is_behind = False
+        self._is_started = self._is_closing = self._is_behind = self.was_silent = False
         self._folder, self._locked = tempfile.mkdtemp(prefix="b3store-server-"), -1
         # what removes old files from /tmp leaves a locked folder alone
         with contextlib.suppress(OSError, FolderInUse):
@@ -110,6 +112,30 @@ class StoreProcess(Transfers):
                 raise StoreError(f"{program} ended with {status_text(self._process.wait(1))} before it answered") from None
             self._process.kill()
             raise StoreError(f"{program} is not a store: {error}") from None
+
+    @contextlib.contextmanager
+    def killed_if_silent(self, tick: Callable[[], None]) -> Iterator[Callable[[], None]]:
+        """Kills the process if the block makes no progress for too long, as if it is stopped by SIGSTOP. The block calls the result in place of `tick`."""
+        last, is_over = time.monotonic(), threading.Event()
+
+        def progress() -> None:
+            nonlocal last
+            last = time.monotonic()
+            tick()
+
+        def watch() -> None:
+            while not is_over.wait(1.0):
+                if time.monotonic() - last > SECONDS_OF_SILENCE:
+                    self.was_silent = True
+                    return self._process.kill()
+
+        watching = threading.Thread(target=watch, daemon=True)
+        watching.start()
+        try:
+            yield progress
+        finally:
+            is_over.set()
+            watching.join()
 
     def _limit(self, memory: int) -> None:
         """Limits the memory that the process may take from now on. RLIMIT_AS would count what its threads have reserved and don't use, 64 MiB for each."""

@@ -14,7 +14,7 @@ from typing import Iterator, List, Tuple
 from judging import differences, wait_until
 from lines import SHORTLY
 from running import AS_MODULE, CLEAN, PACKAGE, SECONDS, Client, Running, environment, fails
-from saving import LENGTHS, append_to, content_of, files_in, fill_folder, save_folder, state_at, state_of
+from saving import LENGTHS, RUN_SERVER, append_to, content_of, files_in, fill_folder, save_folder, state_at, state_of
 
 sys.path.insert(1, PACKAGE)
 from b3store.files import lock_folder
@@ -43,6 +43,8 @@ server.RedoLog.finish = fail_once
 sys.exit(server.main())
 """
 """A server whose first save fails in an unforeseen way, and that soon tries again."""
+HASTY = f"from b3store import server_store; server_store.SECONDS_OF_SILENCE = 1.0; {RUN_SERVER}"
+"""A server that doesn't wait long for a store that doesn't answer."""
 TRIES_AGAIN = "before: File too large; it is tried again, for "
 """What the line has that reports a failed save."""
 
@@ -247,6 +249,18 @@ def saves_that_never_succeed(program: str) -> List[str]:
     return found
 
 
+def stores_that_are_stopped(program: str) -> List[str]:
+    """A store that doesn't answer is killed, and what is lost is reported; the save before stays."""
+    with save_folder() as folder:
+        fill_folder(program, folder)
+        state = state_at(program, folder)
+        with Running(program, "--save", folder, "--grace", "0", python=["-c", HASTY]) as server:
+            os.kill(server.store(), signal.SIGSTOP)
+            status, told, left = server.end()
+        wanted = "b3store.server: the store did not answer for 1 s, and was killed; everything in it is lost, except for what its log has"
+        return differences((status, 4), (told.splitlines()[-1], wanted), (left, []), (state_at(program, folder), state))
+
+
 def other_signals(program: str) -> List[str]:
     """SIGQUIT ends a server, which saves. Signals that are for something else have no effect."""
     with save_folder() as folder, Running(program, "--save", folder) as server, server.client() as client:
@@ -336,6 +350,7 @@ SAVES = (
     ("links in the folder of a save", links_in_a_folder),
     ("saves that fail", saves_that_fail),
     ("saves that never succeed", saves_that_never_succeed),
+    ("saves of stores that are stopped", stores_that_are_stopped),
     ("saves at other signals", other_signals),
     ("saves of stores that end", stores_that_end),
     ("a restoration that is stopped", stops_at_the_start),
