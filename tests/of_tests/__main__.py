@@ -1,5 +1,5 @@
-"""python3 tests/of_tests: tests that tests/growths, tests/failures, tests/random, tests/sessions, tests/memory, tests/program, tests/pages,
-tests/clients, tests/install, tests/b3sum, tests/c, tests/store_c and tests/soak fail when they must: with `true` or `cat` instead of the program, with
+"""python3 tests/of_tests: tests that tests/growths, tests/failures, tests/random, tests/sessions, tests/memory, tests/logs, tests/parted, tests/program,
+tests/pages, tests/clients, tests/install, tests/b3sum, tests/c, tests/store_c and tests/soak fail when they must: with `true` or `cat` instead of the program, with
 libraries that do nothing, if no growth of memory can be made to fail, and without a C compiler or a test program. tests/program and tests/clients are tried
 with `cat` alone. Each must end with status 1 and a last line `N passed, M failed`, where M is not 0; and where each test asks something of the program, N
 must be 0.
@@ -54,7 +54,7 @@ def row_of(words, answer, is_test, refusal=Answer(3, b"", b"")):
 
 def refusal_of(case):
     """What the stand-in answers a command whose growth is refused: of `serve` its first line is refused, and the session goes on."""
-    if case.words[1] != "serve":
+    if case.words[1] != "serve" or "--load" in case.words:
         return Answer(3, case.refusal if case.refusal.endswith(b"\n") else case.refusal and b"refused U5\n", b"")
     store = Store()
     return Answer(0, case.refusal + b"".join(answer_of(store, *request) for request in list(requests_of(case.data))[1:]), b"")
@@ -159,6 +159,8 @@ def try_program(trials, name):
     trials.fails(f"failures over {name}", [failures, program])
     trials.fails(f"random over {name}", [random, program, "--cases", str(FEW_CASES)])
     trials.fails(f"sessions over {name}", [os.path.join(TESTS, "sessions"), program, "--program-alone", "--commands", "1000"])
+    for test in "logs", "parted":
+        trials.fails(f"{test} over {name}", [os.path.join(TESTS, test), program])
     trials.fails(f"memory over {name}", [memory, program], "it answered")
     trials.fails(f"pages over {name}", [os.path.join(TESTS, "pages"), program], may_pass=True)
     if name == ANSWERS:
