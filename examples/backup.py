@@ -449,12 +449,13 @@ class Backup(Repository):
                 self.report(f"{address}  {fault}")
 
     def check(self):
-        count, broken, whole = len(self.places), 0, set()
+        count, broken, whole, hashed = len(self.places), 0, set(), {}
         for name in self.logs:
             # the program compares the hash of each object with its address
             with self.open(name) as log, subprocess.Popen([self.options.program, "serve"], stdin=log, stdout=subprocess.PIPE) as process:
-                hashed = {line.split()[1].decode() for line in process.stdout if line.startswith((b"new ", b"known "))}
-            for address in [address for address, place in self.places.items() if place[0] == name and address not in hashed]:
+                hashed[name] = {line.split()[1].decode() for line in process.stdout if line.startswith((b"new ", b"known "))}
+        for address, (name, _, _) in [*self.places.items()]:
+            if address not in hashed[name]:
                 self.report(f"damaged: object {address} in {name}")
                 del self.places[address]
         for address in self.snapshots:

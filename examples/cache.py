@@ -88,7 +88,7 @@ class Handler(http.server.BaseHTTPRequestHandler):
             work()
             return True
         except Declined as fault:
-            self.answer(fault.status, str(fault))
+            self.answer(*fault.args)
         except (Refused, MemoryError) as fault:
             self.server.cache.free_memory()
             self.answer(503, str(fault) or "out of memory")
@@ -134,7 +134,8 @@ class Handler(http.server.BaseHTTPRequestHandler):
         self.end_headers()
 
     def send_error(self, code, message=None, explain=None):
-        # this is how http.server refuses a request that it can't read
+        # http.server refuses by this what it can't read, and writes the answer only as the connection is closed
+        self.close_connection = True
         self.answer(code, message or "")
 
     def log_request(self, code="-", size="-"):
@@ -239,7 +240,9 @@ class Handler(http.server.BaseHTTPRequestHandler):
                 self.wfile.write(b"HTTP/1.1 100 Continue\r\n\r\n")
                 self.wfile.flush()
             with tempfile.SpooledTemporaryFile(SHORT, dir=self.server.cache.folder) as body:
-                self.read_body(body)
+                for count in self.pieces():
+                    self.check_length(body.tell() + count)
+                    self.copy(count, body)
                 self.has_body = False
                 self.server.cache.put(self.path, body, body.tell())
         finally:
@@ -250,16 +253,11 @@ class Handler(http.server.BaseHTTPRequestHandler):
         if length > self.server.max_body:
             raise Declined(413, f"a body has at most {self.server.max_body} bytes")
 
-    def read_body(self, file):
-        """Writes the body to a file."""
+    def pieces(self):
+        """Yields the length of each piece of the body, which has to be read before the next one: of each chunk, or of all."""
         if self.length is not None:
-            return self.copy(self.length, file)
-        for count in self.chunks():
-            self.check_length(file.tell() + count)
-            self.copy(count, file)
-
-    def chunks(self):
-        """Yields the length of each chunk of the body, whose content has to be read before the next one."""
+            yield self.length
+            return
         while True:
             found = CHUNK.fullmatch(self.rfile.readline(MAX_LINE))
             if not found:

@@ -27,11 +27,7 @@ Entry = collections.namedtuple("Entry", "address length record")
 
 
 class Declined(Exception):
-    """Ends a request. `status` is that of the answer, which has the text."""
-
-    def __init__(self, status, text):
-        super().__init__(text)
-        self.status = status
+    """Ends a request: by a status and a text, which are its arguments."""
 
 
 class Cache:

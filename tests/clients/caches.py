@@ -255,6 +255,7 @@ def connections_that_are_kept():
             answer.read()
             found += differences((answer.status, status), (connection.sock is used, True))
         connection.close()
+        found += differences((cache.ask("POST", "/k", b"x")[0], 501), (cache.ask("PATCH", "/k")[0], 501))
         both = cache.raw(b"PUT /a HTTP/1.1\r\nContent-Length: 1\r\n\r\naGET /a HTTP/1.1\r\n\r\n")
         found += differences((both.count(b"HTTP/1.1 "), 2), (both[-1:], b"a"), (b"Connection: close" in cache.raw(b"GET /a HTTP/1.0\r\nConnection: keep-alive\r\n\r\n", False), True))
         asked = cache.raw(b"PUT /a HTTP/1.1\r\nContent-Length: 1\r\nExpect: 100-continue\r\n\r\nb")
