@@ -73,7 +73,7 @@ def get(store: Client, words: Any) -> int:
     tenant, (start, length) = tenant_of(store, words), words.range
     try:
         end = max(start, min(store.size(tenant, words.address), start + length))
-        with output_to(words.output) as write:
+        with output_to(words.output, words.follow) as write:
             room = memoryview(bytearray(min(PART_LEN, end - start)))
             for at in range(start, end, PART_LEN):
                 piece = room[: end - at]
@@ -85,16 +85,17 @@ def get(store: Client, words: Any) -> int:
 
 
 @contextlib.contextmanager
-def output_to(path: str) -> Iterator[Callable[[memoryview], Any]]:
+def output_to(path: str, follows: bool) -> Iterator[Callable[[memoryview], Any]]:
     """A function that writes to a file, or to standard output. A regular file gets its name when all is written, so that no half of one is left. A pipe or a
-    device is written to as it is. A link is an error: someone else may have made it."""
+    device is written to as it is. A link is an error, unless it is followed: someone else may have made it."""
     if path == "-":
         yield sys.stdout.buffer.write
         return
+    path = os.path.realpath(path) if follows else path
     try:
         old = os.lstat(path) if os.path.lexists(path) else None
         if old is not None and stat.S_ISLNK(old.st_mode):
-            raise OSError(errno.ELOOP, "it is a link: name the file that it leads to, or - for standard output")
+            raise OSError(errno.ELOOP, "it is a link: --follow writes to what it leads to, and - to standard output")
         if old is None or stat.S_ISREG(old.st_mode):
             with replacing(path, old) as file:
                 yield file.write
@@ -283,6 +284,7 @@ def make_parser() -> argparse.ArgumentParser:
     add = add_command(commands, get, "get", "write an object's bytes")
     add("address", type=address_argument, metavar="ADDRESS")
     add("-o", "--output", default="-", metavar="FILE", help="write to this file (default: -, standard output)")
+    add("--follow", action="store_true", help="if FILE is a link, write to what it leads to")
     range_help = "write LEN bytes, starting at byte FROM; without LEN, all bytes from there on"
     add("--range", type=range_argument, default=(0, MAX_UPLOAD_LEN), metavar="FROM:LEN", help=range_help)
     add = add_command(commands, has, "has", "print which of these objects the tenant holds, with their lengths")

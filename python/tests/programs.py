@@ -144,10 +144,13 @@ def outputs_of_all_kinds():
             file.write(b"kept")
         for target in kept, pipe, os.devnull, "/dev/stdout", "none", "link":
             os.symlink(target, link)
-            found += differences((run([*get, link]), (3, b"", f"b3store: {link}: it is a link: name the file that it leads to, or - for standard output\n")))
+            found += differences((run([*get, link]), (3, b"", f"b3store: {link}: it is a link: --follow writes to what it leads to, and - to standard output\n")))
             found += differences((os.readlink(link), target))
             os.remove(link)
         found += differences((open(kept, "rb").read(), b"kept"), (run([*get, "/dev/full"])[::2], (3, "b3store: /dev/full: no space left on device\n")))
+        os.symlink("kept", link)
+        found += differences((run([*get, link, "--follow"]), (0, b"", "")), (os.readlink(link), "kept"), (open(kept, "rb").read(), b"abc"))
+        os.remove(link)
         return found + differences((sorted(os.listdir(place)), ["kept", "pipe"]), (run([*get, place])[::2], (3, f"b3store: {place}: is a directory\n")))
 
 
