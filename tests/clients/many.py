@@ -99,6 +99,8 @@ def units():
             os.makedirs(os.path.join(place, "b3store-cache"))
             with subprocess.Popen([sys.executable, *words], stderr=subprocess.PIPE, env={**os.environ, "NOTIFY_SOCKET": notified}) as process:
                 found = differences((listening.recv(100), b"READY=1"))
+                while b"loaded" not in process.stderr.readline():
+                    pass
                 process.terminate()
                 found += differences((process.wait(SECONDS), 0), (listening.recv(100), b"STOPPING=1"))
         lines = [len(open(path, encoding="ascii").readlines()) for path in glob.glob(os.path.join(SHARE, "b3store-cache*"))]
