@@ -1,4 +1,4 @@
-//! Uploads that are sealed, by one and by several workers.
+//! Uploads that are sealed, by one and by several workers; and the lock of a store.
 
 use crate::gates::{Rule, Signal};
 use crate::strangers::Deed;
@@ -7,6 +7,7 @@ use b3_core::Runtime;
 use std::process::Abort;
 use std::sync::Wait;
 use std::thread::Threads;
+use store_shared::SharedOf;
 
 // An upload for tenant 1 in parts of one chunk, during which a stranger may act, results in a text that begins and ends like this.
 fn leaves<R: Threads + Wait + Sync + AllocGlobal + Runtime + Abort>(
@@ -96,4 +97,13 @@ fn a_full_queue_loses_no_part(rt: HostRuntime) {
         );
         assert!(rt; signal.is_asked_once_for_each(), "{workers} workers");
     }
+}
+
+// The lock works for any value, so that it can't change a store.
+#[test]
+fn a_lock_is_generic_over_what_it_protects(rt: HostRuntime) {
+    let shared = SharedOf::of(7u64, 1);
+    let seen = *shared.lock(&rt);
+    assert!(rt; shared.workers() == 1 && seen == 7);
+    assert!(rt; shared.close() == 7);
 }
