@@ -138,8 +138,8 @@ def outputs_of_all_kinds():
         pipe, link, kept = (os.path.join(place, name) for name in ("pipe", "link", "kept"))
         get, found = ["--socket", server.path, "get", ABC, "-o"], []
         os.mkfifo(pipe)
-        reader = subprocess.Popen(["cat", pipe], stdout=subprocess.PIPE)
-        found += differences((run([*get, pipe]), (0, b"", "")), (reader.communicate(timeout=SECONDS)[0], b"abc"), (run([*get, os.devnull]), (0, b"", "")))
+        reader = subprocess.Popen(["timeout", str(SECONDS), "cat", pipe], stdout=subprocess.PIPE)
+        found += differences((run([*get, pipe]), (0, b"", "")), (reader.communicate()[0], b"abc"), (run([*get, os.devnull]), (0, b"", "")))
         with open(kept, "wb") as file:
             file.write(b"kept")
         for target in kept, pipe, os.devnull, "/dev/stdout", "none", "link":
