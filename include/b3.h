@@ -4,7 +4,7 @@
  *     #include <stdio.h>
  *     int main(void) {
  *         uint8_t hash[B3_HASH_LEN];
- *         b3_hash((const uint8_t *)"abc", 3, hash, sizeof hash, B3_NO_COUNT);
+ *         b3_hash((const uint8_t *)"abc", 3, hash);
  *         for (size_t i = 0; i < sizeof hash; i++)
  *             printf("%02x", hash[i]);
  *         puts("");
@@ -16,16 +16,16 @@
  * The library is proved: for every input, each call writes what the specification of BLAKE3 defines (O'Connor, Aumasson, Neves and
  * Wilcox-O'Hearn, 2020; the sections below are those of this specification). docs/PROOF.md says what is proved and what isn't.
  *
- * A call returns B3_DONE or a number that says what is wrong. If several things are wrong, it returns the first in the order stated at
- * the call. If it returns anything but B3_DONE, nothing that was passed to it has changed.
+ * A call returns B3_DONE or a number that says what is wrong, or nothing if nothing can be wrong. If several things are wrong, it returns
+ * the first in the order stated at the call. If it returns anything but B3_DONE, nothing that was passed to it has changed.
  *
  * Bytes are passed as a pointer and a length, which may be 0. No pointer may be null, even if the length is 0. What a call writes, the
  * output and the count, must not overlap anything else that is passed to it. A call allocates nothing, keeps no state, and accesses
  * only what is passed to it, so calls may run at the same time if none writes what another one reads or writes.
  *
  * `compressions` is a count that the caller owns. A successful call adds the number of compressions that it made; the count saturates
- * at 2^64-1. If you don't need it, pass B3_NO_COUNT. This pointer must not be null either: the proofs are about references, which are
- * never null. */
+ * at 2^64-1. If you don't need it, pass B3_NO_COUNT: this pointer must not be null either, since the proofs are about references, which
+ * are never null. For bytes that are all in memory there are calls without a count. */
 #ifndef B3_H
 #define B3_H
 
@@ -74,26 +74,42 @@ uint32_t b3_version(void);
 #define B3_KEY_LEN 32     /* the bytes of a key */
 #define B3_CHUNK_LEN 1024 /* the bytes of a chunk (section 2.4) */
 
-/* ---- Bytes that are all in memory */
+/* ---- Bytes that are all in memory
+ *
+ * Each call has a form without a count, an inline function that makes the counted call with B3_NO_COUNT. */
 
-/* Writes the hash of `bytes` (sections 2.1 to 2.5). B3_BAD_OUTPUT if `out_len` is not B3_HASH_LEN. */
-uint32_t b3_hash(const uint8_t *bytes, size_t len, uint8_t *out, size_t out_len, uint64_t *compressions);
+/* Writes the hash of `bytes` (sections 2.1 to 2.5). With a count: B3_BAD_OUTPUT if `out_len` is not B3_HASH_LEN. */
+uint32_t b3_hash_counted(const uint8_t *bytes, size_t len, uint8_t *out, size_t out_len, uint64_t *compressions);
+static inline void b3_hash(const uint8_t *bytes, size_t len, uint8_t out[B3_HASH_LEN]) {
+    b3_hash_counted(bytes, len, out, B3_HASH_LEN, B3_NO_COUNT);
+}
 
-/* Writes the keyed hash of `bytes` (section 2.3). B3_BAD_KEY if `key_len` is not B3_KEY_LEN; B3_BAD_OUTPUT if `out_len` is not
- * B3_HASH_LEN. */
-uint32_t b3_keyed_hash(const uint8_t *key, size_t key_len, const uint8_t *bytes, size_t len, uint8_t *out, size_t out_len,
-                       uint64_t *compressions);
+/* Writes the keyed hash of `bytes` (section 2.3). With a count: B3_BAD_KEY if `key_len` is not B3_KEY_LEN; B3_BAD_OUTPUT if `out_len` is
+ * not B3_HASH_LEN. */
+uint32_t b3_keyed_hash_counted(const uint8_t *key, size_t key_len, const uint8_t *bytes, size_t len, uint8_t *out, size_t out_len,
+                               uint64_t *compressions);
+static inline void b3_keyed_hash(const uint8_t key[B3_KEY_LEN], const uint8_t *bytes, size_t len, uint8_t out[B3_HASH_LEN]) {
+    b3_keyed_hash_counted(key, B3_KEY_LEN, bytes, len, out, B3_HASH_LEN, B3_NO_COUNT);
+}
 
 /* Writes the key derived from the key material `bytes` in a context (section 2.3). A context is a text that only one application uses,
- * for one purpose, such as "example.com 2026-11-26 session tokens". B3_BAD_OUTPUT if `out_len` is not B3_HASH_LEN. */
-uint32_t b3_derive_key(const uint8_t *context, size_t context_len, const uint8_t *bytes, size_t len, uint8_t *out,
-                       size_t out_len, uint64_t *compressions);
+ * for one purpose, such as "example.com 2026-11-26 session tokens". With a count: B3_BAD_OUTPUT if `out_len` is not B3_HASH_LEN. */
+uint32_t b3_derive_key_counted(const uint8_t *context, size_t context_len, const uint8_t *bytes, size_t len, uint8_t *out,
+                               size_t out_len, uint64_t *compressions);
+static inline void b3_derive_key(const uint8_t *context, size_t context_len, const uint8_t *bytes, size_t len,
+                                 uint8_t out[B3_HASH_LEN]) {
+    b3_derive_key_counted(context, context_len, bytes, len, out, B3_HASH_LEN, B3_NO_COUNT);
+}
 
 /* Writes `out_len` bytes of the extended output of `bytes` (section 2.6), starting at byte `position`, in the mode B3_HASH,
  * B3_KEYED_HASH or B3_DERIVE_KEY with its key or context. The first 32 bytes of the output are the hash. B3_BAD_POSITION if the sum of
  * `position` and `out_len` exceeds 2^64-1; B3_BAD_KEY if there is no such mode or its key has another length. */
-uint32_t b3_extended(uint32_t mode, const uint8_t *key, size_t key_len, const uint8_t *bytes, size_t len, uint64_t position,
-                     uint8_t *out, size_t out_len, uint64_t *compressions);
+uint32_t b3_extended_counted(uint32_t mode, const uint8_t *key, size_t key_len, const uint8_t *bytes, size_t len, uint64_t position,
+                             uint8_t *out, size_t out_len, uint64_t *compressions);
+static inline uint32_t b3_extended(uint32_t mode, const uint8_t *key, size_t key_len, const uint8_t *bytes, size_t len,
+                                   uint64_t position, uint8_t *out, size_t out_len) {
+    return b3_extended_counted(mode, key, key_len, bytes, len, position, out, out_len, B3_NO_COUNT);
+}
 
 /* ---- Bytes that arrive in pieces
  *

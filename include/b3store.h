@@ -15,7 +15,7 @@
  *         return b3store_close(&store) || answer;
  *     }
  *
- * Build it with `cc abc.c $(pkg-config --cflags --libs b3store) -o abc`. docs/LIBRARY.md explains what a store does.
+ * Build it with `cc abc.c $(pkg-config --cflags --libs b3store) -o abc`. docs/USE.md and docs/PROTOCOL.md explain what a store does.
  *
  * The library is proved: each call changes a store as the model of the store defines, and reports what the model reports. docs/PROOF.md
  * says what is proved and what isn't.
@@ -216,7 +216,7 @@ uint32_t b3store_fix(b3store *store, uint64_t upload, uint64_t len, b3store_why 
  * Refusals: 7, 16, 10, 6, 13, 14. */
 uint32_t b3store_seal(b3store *store, uint64_t upload, b3store_sealed *sealed, b3store_why *why, uint64_t *work);
 
-/* The same, if the content has this address. Refusals: 7, 16, 10, 11, 6, 13, 14. */
+/* Seals a complete upload as b3store_seal does, if its content has this address. Refusals: 7, 16, 10, 11, 6, 13, 14. */
 uint32_t b3store_seal_as(b3store *store, uint64_t upload, const b3store_address *address, b3store_sealed *sealed, b3store_why *why,
                          uint64_t *work);
 
@@ -285,7 +285,7 @@ uint32_t b3store_entries(b3store *store, uint64_t *count);
  * describes their lines. Refusal: 14. B3STORE_IS_OPEN. */
 uint32_t b3store_journal(b3store *store, uint64_t from, uint64_t count, b3store_text *text, b3store_why *why);
 
-/* Runs the lines of a session on the store, as `b3store serve` does (docs/COMMANDS.md), with the bytes after a line, and has a closed handle
+/* Runs the lines of a session on the store, as `b3store serve` does (docs/PROTOCOL.md), with the bytes after a line, and has a closed handle
  * keep the text of their answers. B3STORE_TRUNCATED if the lines end within the bytes after a line: then a `putb` isn't run and a `file` is
  * aborted, though the lines before it are run; B3STORE_ANSWER_LOST if there is no memory for an answer: the lines up to that one were run, and
  * the text is cut off. In both cases the handle keeps the text. B3STORE_NO_VALUE, B3STORE_IS_OPEN, B3STORE_NO_MEMORY: no line was run. */

@@ -1,4 +1,5 @@
-//! Hashing bytes in memory.
+//! Hashing bytes in memory. `include/b3.h` has forms of these calls without `work`, which call these with a count of their own: only the
+//! runtime makes a count, and a library for C is given none.
 
 ghost use Rattle.std.specs.Prelude.{◌≡◌, ◌≢◌, ◌+◌, ◌-◌, ◌^◌, ◌<◌, false, true, MatchOption, length};
 ghost use Rattle.b3_core.specs.ExtendedOutput.{blocks_touched, output_of};
@@ -26,7 +27,7 @@ const DERIVE_KEY: u32 = 2;
 
 /// Writes the hash of `bytes` (sections 2.1 to 2.5), 32 bytes. Returns 0 on success, 1 if `out` has another length.
 #[unsafe(no_mangle)]
-pub extern "C" fn b3_hash(bytes: &[u8], out: &mut [u8], work: &mut Work) -> u32
+pub extern "C" fn b3_hash_counted(bytes: &[u8], out: &mut [u8], work: &mut Work) -> u32
     ensures answer { result ≡ hash_answer (length out.old) }
     ensures bytes { result ≡ 0 → out.new ≡ hash_of bytes.now }
     ensures count { result ≡ 0 → work.new ≡ counted work.old (hash_work (length bytes.now)) }
@@ -42,7 +43,12 @@ pub extern "C" fn b3_hash(bytes: &[u8], out: &mut [u8], work: &mut Work) -> u32
 /// Writes the keyed hash of `bytes` (section 2.3), 32 bytes. Returns 0 on success, 2 if `key` does not have 32 bytes, 1 if `out` has
 /// another length.
 #[unsafe(no_mangle)]
-pub extern "C" fn b3_keyed_hash(key: &[u8], bytes: &[u8], out: &mut [u8], work: &mut Work) -> u32
+pub extern "C" fn b3_keyed_hash_counted(
+    key: &[u8],
+    bytes: &[u8],
+    out: &mut [u8],
+    work: &mut Work,
+) -> u32
     ensures answer { result ≡ keyed_answer (length key.now) (length out.old) }
     ensures bytes { result ≡ 0 → out.new ≡ digest_of bytes.now (keyed_mode key.now) }
     ensures count { result ≡ 0 → work.new ≡ counted work.old (hash_work (length bytes.now)) }
@@ -61,7 +67,7 @@ pub extern "C" fn b3_keyed_hash(key: &[u8], bytes: &[u8], out: &mut [u8], work: 
 /// Writes the key derived from the key material `bytes` in a context (section 2.3), 32 bytes. Returns 0 on success, 1 if `out` has another
 /// length.
 #[unsafe(no_mangle)]
-pub extern "C" fn b3_derive_key(
+pub extern "C" fn b3_derive_key_counted(
     context: &[u8],
     bytes: &[u8],
     out: &mut [u8],
@@ -83,7 +89,7 @@ pub extern "C" fn b3_derive_key(
 /// Fills `out` with the extended output of `bytes` (section 2.6), starting at `position`, in a mode with its key or context. Returns 0 on
 /// success, 3 if the bytes extend past the 2^64-1 bytes of the output, 2 if there is no such mode or its key has another length.
 #[unsafe(no_mangle)]
-pub extern "C" fn b3_extended(
+pub extern "C" fn b3_extended_counted(
     mode: u32,
     key: &[u8],
     bytes: &[u8],

@@ -34,7 +34,7 @@ truncated_second old mid new first then was h = record {
   };
 }
 
--- the same of the call that ends a function
+-- a second text that is written last, and is truncated if that fails
 pub truncated_last : {E : Type 0} (result : Result (Unit {0}) E) (old mid new : Option (List ℕ)) (first then : List ℕ) → Appends old mid first → OnErr result (IsTruncated mid new then) → OnErr result (IsTruncated old new (first ++ then))
 truncated_last (Ok x) old mid new first then was h = tt
 truncated_last (Err e) old mid new first then was h = truncated_second old mid new first then was h

@@ -27,6 +27,8 @@
 //! - `check_file_laws` states facts about the definitions that these contracts use.
 //!
 //! Running out of memory is a separate error in every call that allocates, returned instead of any other result.
+//!
+//! `verify` allocates nothing and keeps no answers, so running out of memory loses none that was given.
 #![tactic(auto)]
 
 mod fault;

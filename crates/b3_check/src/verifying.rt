@@ -63,7 +63,7 @@ fn verify_line<N: Names, W: Write>(
     }
 }
 
-// The same for a line without a fault.
+// Asks for the digest of a line without a fault, and reports the result.
 fn verify_named<N: Names, W: Write>(
     line: &Line,
     options: ReportOptions,

@@ -23,6 +23,13 @@
 //! - `tree_laws` states the tree in the specification's own words.
 //!
 //! The modules `compression`, `chunk`, `node` and `tree` follow the specification; `wide` is the fast implementation.
+//!
+//! The hash of an input takes one compression for each block, and one for each chunk after the first.
+//!
+//! A `Top` keeps the inputs of its last compression: any node may be the root, which is compressed with one more flag. A `Hasher` keeps
+//! only the nodes of whole subtrees and the bytes after them, so its size is fixed; its contracts hold for every input that leads to what
+//! it keeps. Several compressions run side by side only if that many chunks or parents make up a subtree, so no lane of a vector is empty.
+//! The code can't test which processor it is compiled for: the widest vectors always have eight words, and AVX2 makes them twice as fast.
 #![tactic(auto)]
 
 mod chunk;

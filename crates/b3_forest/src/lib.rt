@@ -22,6 +22,9 @@
 //!
 //! The pieces are always the canonical forest of the held chunks, and `forest_laws` states that there is only one such forest. They are
 //! kept in an ordered map by their first chunk.
+//!
+//! All pieces of a part are inserted before any two are merged. If an allocation fails, they are removed again, so a refusal changes
+//! nothing.
 #![tactic(auto)]
 
 mod borrowed;

@@ -17,6 +17,9 @@
 //!
 //! Contracts say which value a call returns. They do not say that threads overlap, or how fast they are. No call leaves a thread running.
 //! If a thread cannot be started, or memory for one cannot be allocated, the calling thread hashes alone.
+//!
+//! No value or count depends on the number of threads; it decides only whether `hash_source` returns one. Threads that read one file have
+//! duplicates of its descriptor, since a file that is opened again by its name may be another file.
 #![tactic(auto)]
 
 mod blocks;

@@ -140,7 +140,7 @@ pub fn hash_all<T: Threads + Runtime, R: Read>(
     made
 }
 
-// The same with a line that has been given nothing yet.
+// Hashes all bytes of a reader by the threads of a line of blocks, which has been given nothing yet.
 fn hash_in_blocks<T: Threads + Runtime, R: Read>(
     threads: &HashThreads<'_, T>,
     line: &mut BlockLine,

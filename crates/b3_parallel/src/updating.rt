@@ -54,7 +54,7 @@ pub fn update<T: Threads + Sync + Runtime>(
     }
 }
 
-// The same in parts of 2^`level` chunks.
+// Appends bytes to a hasher; threads hash parts of 2^`level` chunks.
 fn update_in_parts<T: Threads + Sync + Runtime>(
     threads: &HashThreads<'_, T>,
     hasher: &mut Hasher,

@@ -2,7 +2,6 @@
 
 use crate::standard::StandardError;
 use b3_check::{NameFault, Names, NumberedLine};
-use edge::number;
 use std::cell::Cell;
 use std::io::{BufRead, Read, Write};
 use std::sync::atomic::{AtomicU64, Ordering};
@@ -111,53 +110,6 @@ impl<N: Names + Drop> Names for ExplainedNames<'_, N> {
 
     fn digest_of(&mut self, name: &[u8]) -> Result<Option<[u8; 32]>, NameFault> {
         self.within.digest_of(name)
-    }
-}
-
-/// The output of `audit` and `migrate`. A refused journal is explained.
-#[derive(Drop)]
-pub(crate) struct ExplainedJournal<'a, W> {
-    refusals: &'a Refusals<'a>,
-    within: W,
-}
-
-impl<'a, W> ExplainedJournal<'a, W> {
-    pub(crate) fn new(refusals: &'a Refusals<'a>, within: W) -> ExplainedJournal<'a, W> {
-        ExplainedJournal { refusals, within }
-    }
-
-    // Explains the refusal in a text, if it is one.
-    fn explain(&self, text: &[u8]) {
-        let Some(refusal) = text.strip_suffix(b"\n") else {
-            return;
-        };
-        if let Some(line) = number_after(refusal, b"refused J2 ") {
-            self.refusals
-                .explain("line", line, &"J2: it is not in the grammar of journals");
-        }
-        if let Some(entry) = number_after(refusal, b"refused J1 ") {
-            let reason = "J1: its command is refused after the entries before it";
-            self.refusals.explain("entry", entry, &reason);
-        }
-    }
-}
-
-// The number that follows a text.
-fn number_after(text: &[u8], front: &[u8]) -> Option<u64> {
-    number(text.strip_prefix(front)?)
-}
-
-impl<W: Write> Write for ExplainedJournal<'_, W> {
-    fn write(&mut self, buf: &[u8]) -> io::Result<usize> {
-        let written = self.within.write(buf)?;
-        if written == buf.len() {
-            self.explain(buf);
-        }
-        Ok(written)
-    }
-
-    fn flush(&mut self) -> io::Result<()> {
-        self.within.flush()
     }
 }
 

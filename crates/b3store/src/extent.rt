@@ -102,7 +102,7 @@ impl<'a, S: Drop> Metered<'a, S> {
         Some(bytes)
     }
 
-    // The same for the names in lines, except those with a fault.
+    // The total size of the files that lines without a fault name, if all are regular files.
     fn bytes_of_lines(&self, lines: &[NumberedLine]) -> Option<u64> {
         let mut bytes = 0;
         for line in lines {

@@ -1,6 +1,5 @@
 //! `sum` and `check`, over standard input and files.
 
-ghost use Rattle.std.specs.Prelude.{All, IfOk};
 ghost use Rattle.b3_check.specs.Names.{IsName};
 ghost use Rattle.store_command_line.specs.Ranges.{IsSumInRange};
 
@@ -8,14 +7,13 @@ use crate::explaining::{ExplainedNames, Refusals};
 use crate::extent::{Extent, Metered};
 use crate::reporting::{GOOD, misused, opened, status, stopped};
 use crate::standard::{StandardError, StandardInput, answer_output, standard_output};
-use crate::words::{Foreign, names_of_words};
+use crate::words::Words;
 use b3_check::Name;
 use b3_core::{Runtime, Work};
 use hash_engines::{
     Cause, Digests, HashThreads, SumLine, SumLines, SumMode, SumRequest, SystemFiles, SystemInputs,
-    Verdict, check, names_of, read_key, read_names, sum, sum_files, write_root,
+    Verdict, check, read_key, read_names, sum, sum_files, write_root,
 };
-use std::alloc::{AllocError, Global};
 use std::io::{LineWriter, Read};
 use std::thread::Threads;
 use store_command_line::{AskedMode, CheckOptions, Input, NameList, SumInputs, SumOptions};
@@ -63,17 +61,6 @@ fn names_in(errors: StandardError<'_>, names: &NameList<'_>) -> Result<Vec<Name>
     }
 }
 
-// The names of the files that words name, some of which may be foreign.
-fn names(alloc: Global, words: &[&str], foreign: &[Foreign]) -> Result<Vec<Name>, AllocError>
-    requires { All (λ word. IsName word.now) words.now }
-{
-    if foreign.is_empty() {
-        names_of(alloc, words)
-    } else {
-        names_of_words(alloc, words, foreign)
-    }
-}
-
 // Writes the hash of standard input.
 fn sum_standard<T: Threads + Runtime>(
     errors: StandardError<'_>,
@@ -116,12 +103,12 @@ fn sum_named<T: Threads + Runtime>(
 }
 
 // The exit status of `sum`, or that of something it needs and cannot get.
-fn summed<T: Threads + Runtime>(
+fn sum_inputs<T: Threads + Runtime>(
     errors: StandardError<'_>,
     threads: &T,
     extent: &Extent,
     options: &SumOptions<'_>,
-    foreign: &[Foreign],
+    words: &Words,
 ) -> Result<u8, u8>
     requires { IsSumInRange options.now }
 {
@@ -141,7 +128,7 @@ fn summed<T: Threads + Runtime>(
             let ended = sum_standard(errors, &threads, extent, &request);
             return Ok(status(errors, ended));
         }
-        SumInputs::Named(words) => match names(rt.alloc(), words.as_slice(), foreign) {
+        SumInputs::Named(files) => match words.names(rt.alloc(), files.as_slice()) {
             Ok(names) => names,
             Err(_) => return Err(stopped(errors, Cause::OutOfMemory)),
         },
@@ -159,11 +146,11 @@ pub(crate) fn sum_status<T: Threads + Runtime>(
     threads: &T,
     extent: &Extent,
     options: &SumOptions<'_>,
-    foreign: &[Foreign],
+    words: &Words,
 ) -> u8
     requires { IsSumInRange options.now }
 {
-    match summed(errors, threads, extent, options, foreign) {
+    match sum_inputs(errors, threads, extent, options, words) {
         Ok(status) => status,
         Err(status) => status,
     }
@@ -171,7 +158,7 @@ pub(crate) fn sum_status<T: Threads + Runtime>(
 
 // Verifies the check lines that a reader returns, and explains those with faults. The name `-` in a line is standard input, unless the lines
 // come from there; then it is a file.
-fn checked<T: Threads + Runtime, R: Read>(
+fn check_lines<T: Threads + Runtime, R: Read>(
     threads: &T,
     extent: &Extent,
     options: &CheckOptions<'_>,
@@ -214,10 +201,10 @@ fn list_status<T: Threads + Runtime>(
     let ended = match list {
         Input::Standard => {
             let mut reader = errors.runtime().stdin();
-            checked(threads, extent, options, refusals, &mut reader)
+            check_lines(threads, extent, options, refusals, &mut reader)
         }
         Input::File(path) => match opened(errors, path) {
-            Ok(mut file) => checked(threads, extent, options, refusals, &mut file),
+            Ok(mut file) => check_lines(threads, extent, options, refusals, &mut file),
             Err(status) => return status,
         },
     };

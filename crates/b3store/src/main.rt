@@ -15,11 +15,11 @@ mod standard;
 mod words;
 
 use b3_core::{Runtime, Work};
-use explaining::{ExplainedAnswers, ExplainedJournal, LastLine, NotedLines, Refusals};
+use explaining::{ExplainedAnswers, LastLine, NotedLines, Refusals};
 use extent::Extent;
 use inputs::{check_status, sum_status};
 use progress::with_progress;
-use reporting::{GOOD, USAGE, status, stopped};
+use reporting::{GOOD, REFUSED, USAGE, status, stopped};
 use sessions::serve_status;
 use standard::{ProgressLine, StandardError, StandardInput, answer_output, standard_output};
 use std::io::{BufReader, BufWriter, IsTerminal};
@@ -27,13 +27,15 @@ use std::marker::Brand;
 use std::process::ExitCode;
 use std::sync::Wait;
 use std::thread::Threads;
-use store_command_line::{AskedUpload, Fault, Input, Options, SumInputs, options};
-use store_engines::{Cause, UnnamedLedgers, UploadOptions, Verdict, audit, migrate, upload};
+use store_command_line::{AskedUpload, Fault, Input, Options, SumInputs, SumOptions, options};
+use store_engines::{
+    Cause, JournalFault, UnnamedLedgers, UploadOptions, Verdict, audit, migrate, upload,
+};
 use store_lines::run;
-use words::{Foreign, are_among, no_files, words_of};
+use words::{Words, not_text};
 
 // Answers a script.
-fn answered(errors: StandardError<'_>) -> Result<Verdict, Cause> {
+fn run_script(errors: StandardError<'_>) -> Result<Verdict, Cause> {
     let rt = errors.runtime();
     let Ok(lines) = BufReader::new(rt.alloc(), rt.stdin()) else {
         return Err(Cause::OutOfMemory);
@@ -51,7 +53,7 @@ fn answered(errors: StandardError<'_>) -> Result<Verdict, Cause> {
 }
 
 // Uploads standard input.
-fn uploaded<T: Threads + Wait + Sync + Runtime>(
+fn upload_input<T: Threads + Wait + Sync + Runtime>(
     errors: StandardError<'_>,
     threads: &T,
     extent: &Extent,
@@ -76,29 +78,39 @@ fn uploaded<T: Threads + Wait + Sync + Runtime>(
     )
 }
 
+// Reports why a journal is refused, if it is, and returns the exit status.
+fn journal_status(errors: StandardError<'_>, ended: Result<Option<JournalFault>, Cause>) -> u8 {
+    match ended {
+        Ok(None) => GOOD,
+        Ok(Some(fault)) => {
+            let _ = eprintln!(errors.cleared(); "b3store: standard input: {fault}");
+            REFUSED
+        }
+        Err(cause) => stopped(errors, cause),
+    }
+}
+
 // Performs the subcommand, and returns the exit status.
 fn perform<T: Threads + Wait + Copy + Send + Sync + Runtime + 'static>(
     errors: StandardError<'_>,
     threads: &T,
     extent: &Extent,
     options: &Options<'_>,
-    foreign: &[Foreign],
+    words: &Words,
 ) -> u8
     requires { InRange options.now }
 {
     let rt = errors.runtime();
     let alloc = rt.alloc();
-    let refusals = Refusals::new(errors, Input::Standard);
-    let mut reader = rt.stdin();
-    let mut writer = ExplainedJournal::new(&refusals, standard_output(rt));
+    let (mut reader, mut writer) = (rt.stdin(), standard_output(rt));
     match options {
-        Options::Sum(options) => sum_status(errors, threads, extent, options, foreign),
-        Options::Run => status(errors, answered(errors)),
+        Options::Sum(options) => sum_status(errors, threads, extent, options, words),
+        Options::Run => status(errors, run_script(errors)),
         Options::Serve(options) => serve_status(errors, threads, options),
-        Options::Upload(asked) => status(errors, uploaded(errors, threads, extent, asked)),
+        Options::Upload(asked) => status(errors, upload_input(errors, threads, extent, asked)),
         Options::Check(options) => check_status(errors, threads, extent, options),
-        Options::Audit => status(errors, audit(alloc, &mut reader, &mut writer)),
-        Options::Migrate => status(errors, migrate(alloc, &mut reader, &mut writer)),
+        Options::Audit => journal_status(errors, audit(alloc, &mut reader, &mut writer)),
+        Options::Migrate => journal_status(errors, migrate(alloc, &mut reader, &mut writer)),
     }
 }
 
@@ -130,14 +142,14 @@ fn perform_reporting<T: Threads + Wait + Copy + Send + Sync + Runtime + 'static>
     errors: StandardError<'_>,
     threads: &T,
     options: &Options<'_>,
-    foreign: &[Foreign],
+    words: &Words,
 ) -> u8
     requires { InRange options.now }
 {
     let is_reported = reports_progress(errors.runtime(), options);
     let extent = &Extent::new(is_reported);
     if !is_reported {
-        return perform(errors, threads, extent, options, foreign);
+        return perform(errors, threads, extent, options, words);
     }
     with_progress(
         errors,
@@ -145,7 +157,7 @@ fn perform_reporting<T: Threads + Wait + Copy + Send + Sync + Runtime + 'static>
         extent,
         move || -> u8
             requires { InRange options.now }
-        { perform(errors, threads, extent, options, foreign) },
+        { perform(errors, threads, extent, options, words) },
     )
 }
 
@@ -165,30 +177,33 @@ fn unusable(errors: StandardError<'_>, fault: Fault) -> u8 {
 }
 
 // Whether each word that is not UTF-8 names a file to hash.
-fn are_files(foreign: &[Foreign], options: &Options<'_>) -> bool {
+fn are_files(words: &Words, options: &Options<'_>) -> bool {
     match options {
-        Options::Sum(options) => match &options.inputs {
-            SumInputs::Named(words) => are_among(foreign, words.as_slice()),
-            _ => foreign.is_empty(),
-        },
-        _ => foreign.is_empty(),
+        Options::Sum(
+            SumOptions {
+                inputs: SumInputs::Named(files),
+                ..
+            },
+        ) => words.has_all_foreign(files.as_slice()),
+        _ => words.has_all_foreign(&[]),
     }
 }
 
 fn main(rt: HostRuntime) -> ExitCode {
     let progress = ProgressLine::new();
     let errors = StandardError::new(&rt, &progress);
-    let words = match words_of(&rt) {
+    let words = match Words::of_process(&rt) {
         Ok(words) => words,
         Err(fault) => return ExitCode::from(unusable(errors, fault)),
     };
-    let foreign = words.foreign.as_slice();
     let status = match options(rt.alloc(), words.texts.as_slice()) {
-        Ok(options) if are_files(foreign, &options) => {
-            perform_reporting(errors, &rt, &options, foreign)
+        Ok(options) if are_files(&words, &options) => {
+            perform_reporting(errors, &rt, &options, &words)
         }
-        Ok(_) => unusable(errors, no_files(rt.alloc())),
-        Err(Fault::Usage(_)) if !foreign.is_empty() => unusable(errors, no_files(rt.alloc())),
+        Ok(_) => unusable(errors, not_text(rt.alloc())),
+        Err(Fault::Usage(_)) if !words.has_all_foreign(&[]) => {
+            unusable(errors, not_text(rt.alloc()))
+        }
         Err(fault) => unusable(errors, fault),
     };
     ExitCode::from(status)

@@ -1,8 +1,11 @@
-//! Clients of one store. Without a door, that is the one of standard input and output. Each client of a door writes its number to the door, a named pipe, and has two named pipes of its own: the server reads its
-//! lines from one and writes the answers to the other. Standard input and output are a session too; the program exits when that ends.
-//! A session aborts at its end the uploads that it began itself and that are open still, unless these are kept.
+//! Clients of one store. Without a door, that is the one of standard input and output. Each client of a door writes its number to the door,
+//! a named pipe, and has two named pipes of its own: the server reads its lines from one and writes the answers to the other. Standard
+//! input and output are a session too; the program exits when that ends. A session aborts at its end the uploads that it began itself and
+//! that are open still, unless these are kept.
 
-ghost use Rattle.std.specs.Prelude.{◌≡◌};
+ghost use Rattle.std.specs.Prelude.{◌≡◌, ◌<◌};
+ghost use Rattle.store_command_line.specs.CommandLine.{max_sessions};
+ghost use Rattle.store_command_line.specs.Ranges.{IsDoorInRange, IsWithin};
 ghost use Rattle.store_ledger.specs.Shares.{all_parts};
 ghost use Rattle.store_shared.specs.Made.{full_limits};
 
@@ -209,19 +212,18 @@ fn start<L: Ledgers + Send + Sync + 'static, T: Threads + Wait + Copy + Send + '
     Ok(())
 }
 
-// Starts a thread for each of `sessions` clients at a time.
+// Starts a thread for each of `sessions` clients at a time. Each has a part of the share.
 fn start_all<L: Ledgers + Send + Sync + 'static, T: Threads + Wait + Copy + Send + 'static>(
     rt: HostRuntime,
     threads: T,
     server: &Arc<Server<L>>,
-    share: &mut Share<L>,
+    share: Share<L>,
     sessions: u32,
-) -> Result<(), AllocError> {
-    for _ in 0..sessions {
-        // A share has more parts than there are sessions.
-        if share.parts() < 2 {
-            break;
-        }
+) -> Result<(), AllocError>
+    requires { sessions < share.parts }
+{
+    let mut share = share;
+    'sessions: for _i in 0..sessions {
         let own = share.split(1);
         let front = server.store.lock(&threads).front();
         start(rt, threads, Arc::try_clone(server)?, own, front)?;
@@ -251,9 +253,11 @@ fn serve_all<L: Ledgers + Send + Sync + 'static, T: Threads + Wait + Copy + Send
     requires calls { (ledgers.calls.name ≡ L.calls_name) × (ledgers.calls.parts ≡ L.calls_parts) × (ledgers.calls.parts ≡ all_parts) }
     requires history { ledgers.history ≡ L.history }
     requires limits { L.limits ≡ full_limits }
+    requires sessions { IsWithin max_sessions options.now.sessions }
 {
     let alloc: Global = rt.alloc();
-    let (store, share) = Shared::<L>::new(alloc, Limits::full(), ledgers);
+    let (store, mut share) = Shared::<L>::new(alloc, Limits::full(), ledgers);
+    let own = share.split(1);
     let server = Server {
         store,
         path: String::from_str(alloc, options.path)?,
@@ -264,26 +268,26 @@ fn serve_all<L: Ledgers + Send + Sync + 'static, T: Threads + Wait + Copy + Send
         return Err(Cause::OutOfMemory);
     };
     let front = server.store.lock(&threads).front();
-    let mut access = Lease::new(&threads, &server.store, share, front);
+    let mut access = Lease::new(&threads, &server.store, own, front);
     let progress = ProgressLine::new();
     let errors = StandardError::new(&rt, &progress);
     if run_log(errors, &mut access, log)? == Verdict::Refused {
         return Ok(Verdict::Refused);
     }
-    let (mut share, front) = access.into_parts();
-    start_all(rt, threads, &server, &mut share, options.sessions)?;
-    let mut access = Lease::new(&threads, &server.store, share, front);
+    start_all(rt, threads, &server, share, options.sessions)?;
     serve_streams(&rt, &mut access, server.at_end, rt.stdin(), io::writer(&rt))
 }
 
-// The same, for a store whose ledgers and history are named here.
+// Serves the clients of a door, with names for the ledgers and the history of their store.
 fn serve_named<T: Threads + Wait + Copy + Send + 'static>(
     rt: HostRuntime,
     threads: T,
     door: Door,
     options: &DoorOptions<'_>,
     log: Option<Log<'_>>,
-) -> Result<Verdict, Cause> {
+) -> Result<Verdict, Cause>
+    requires { IsWithin max_sessions options.now.sessions }
+{
     let ledgers = UnnamedLedgers::new(rt.alloc())?;
     serve_all::<Brand, _>(rt, threads, door, options, log, ledgers)
 }
@@ -318,7 +322,9 @@ fn door_status<T: Threads + Wait + Copy + Send + 'static>(
     threads: &T,
     options: &DoorOptions<'_>,
     log: Option<Log<'_>>,
-) -> u8 {
+) -> u8
+    requires { IsWithin max_sessions options.now.sessions }
+{
     let rt = errors.runtime();
     if !is_pipe(rt, options.path) {
         return misused(
@@ -337,7 +343,9 @@ pub(crate) fn serve_status<T: Threads + Wait + Copy + Send + 'static>(
     errors: StandardError<'_>,
     threads: &T,
     options: &ServeOptions<'_>,
-) -> u8 {
+) -> u8
+    requires { IsDoorInRange options.now.door }
+{
     let log = match Log::open(errors, options.log) {
         Ok(log) => log,
         Err(status) => return status,

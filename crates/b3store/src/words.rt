@@ -1,6 +1,10 @@
 //! The words of the command line, which may be any bytes.
 
+ghost use Rattle.std.specs.Prelude.{All};
+ghost use Rattle.b3_check.specs.Names.{IsName};
+
 use b3_check::Name;
+use hash_engines::names_of;
 use std::alloc::{AllocError, Global};
 use std::fs;
 use std::io::ErrorKind;
@@ -9,128 +13,80 @@ use store_command_line::Fault;
 // The file with the words of this process, each with a zero byte after it.
 const WORDS: &str = "/proc/self/cmdline";
 
-/// A word that is not UTF-8, and the text that stands for it among the words, which no other word has.
-#[derive(Drop)]
-pub(crate) struct Foreign {
-    text: String,
-    bytes: Vec<u8>,
-}
+// The text of a word that is not UTF-8. No file can have this name.
+const FOREIGN: &str = "/dev/null/\u{fffd}";
 
-/// The words of the command line as texts, and those of them that are not UTF-8.
+/// The words of the command line as texts, and the bytes of those that are not UTF-8.
 #[derive(Drop)]
 pub(crate) struct Words {
     pub texts: Vec<String>,
-    pub foreign: Vec<Foreign>,
+    foreign: Vec<Vec<u8>>,
 }
 
-// The fault of a word that is not UTF-8, and that no file name is made of.
-fn not_text(alloc: Global) -> Result<Fault, AllocError> {
-    let text = String::from_str(alloc, "b3store: an argument is not UTF-8\n")?;
-    Ok(Fault::Usage(text))
-}
-
-/// The words of this process.
-pub(crate) fn words_of(rt: &HostRuntime) -> Result<Words, Fault> {
-    match std::env::args(rt) {
-        Ok(words) => Ok(Words {
-            texts: words.collect(rt.alloc())?,
-            foreign: Vec::new(rt.alloc()),
-        }),
-        Err(error) if error.kind() == ErrorKind::OutOfMemory => Err(Fault::NoMemory),
-        Err(_) => match fs::read(rt, WORDS) {
-            Ok(bytes) => Ok(words_in(rt.alloc(), bytes.as_slice())?),
-            Err(_) => Err(not_text(rt.alloc())?),
-        },
-    }
-}
-
-// The words in bytes that have a zero byte after each.
-fn words_in(alloc: Global, bytes: &[u8]) -> Result<Words, AllocError> {
-    let mark = mark_before_no_word(alloc, bytes)?;
-    let mut words = Words {
-        texts: Vec::new(alloc),
-        foreign: Vec::new(alloc),
-    };
-    let mut left = bytes;
-    for at in 0..bytes.len() {
-        let Some(end) = left.iter().position(|byte| *byte == 0) else {
-            return Ok(words);
+impl Words {
+    /// The words of this process.
+    pub(crate) fn of_process(rt: &HostRuntime) -> Result<Words, Fault> {
+        let alloc = rt.alloc();
+        let mut words = Words {
+            texts: Vec::new(alloc),
+            foreign: Vec::new(alloc),
         };
-        let (word, others) = left.split_at(end);
-        add(alloc, &mut words, mark.as_str(), at, word)?;
-        left = &others[1..];
-    }
-    Ok(words)
-}
-
-// Question marks with which no word begins.
-fn mark_before_no_word(alloc: Global, bytes: &[u8]) -> Result<String, AllocError> {
-    let mut mark = String::from_str(alloc, "?")?;
-    for byte in bytes {
-        if *byte == b'?' {
-            mark.push('?')?;
+        match std::env::args(rt) {
+            Ok(texts) => words.texts = texts.collect(alloc)?,
+            Err(error) if error.kind() == ErrorKind::OutOfMemory => return Err(Fault::NoMemory),
+            Err(_) => match fs::read(rt, WORDS) {
+                Ok(bytes) => words.add_all(alloc, bytes.as_slice())?,
+                Err(_) => return Err(not_text(alloc)),
+            },
         }
+        Ok(words)
     }
-    Ok(mark)
-}
 
-// Adds a word.
-fn add(
-    alloc: Global,
-    words: &mut Words,
-    mark: &str,
-    at: usize,
-    word: &[u8],
-) -> Result<(), AllocError> {
-    if let Ok(text) = str::from_utf8(word) {
-        words.texts.push(String::from_str(alloc, text)?)?;
-        return Ok(());
-    }
-    words.texts.push(format!(in alloc; "{mark}{at}")?)?;
-    words.foreign.push(Foreign {
-        text: format!(in alloc; "{mark}{at}")?,
-        bytes: Vec::from_slice(alloc, word)?,
-    })?;
-    Ok(())
-}
-
-// The bytes of a word that stands for one that is not UTF-8.
-fn bytes_of<'a>(word: &'a str, foreign: &'a [Foreign]) -> &'a [u8] {
-    for one in foreign {
-        if one.text.as_str() == word {
-            return one.bytes.as_slice();
+    // Adds the words in bytes that have a zero byte after each.
+    fn add_all(&mut self, alloc: Global, bytes: &[u8]) -> Result<(), AllocError> {
+        let bytes = bytes.strip_suffix(b"\0").unwrap_or(bytes);
+        for word in bytes.split(|byte| *byte == 0) {
+            let text = str::from_utf8(word).unwrap_or(FOREIGN);
+            self.texts.push(String::from_str(alloc, text)?)?;
+            if str::from_utf8(word).is_err() {
+                self.foreign.push(Vec::from_slice(alloc, word)?)?;
+            }
         }
+        Ok(())
     }
-    word.as_bytes()
-}
 
-/// Whether all words that are not UTF-8 are among these.
-pub(crate) fn are_among(foreign: &[Foreign], words: &[&str]) -> bool {
-    foreign
-        .iter()
-        .all(|one| words.iter().any(|word| *word == one.text.as_str()))
-}
+    /// Whether all words that are not UTF-8 are among these.
+    pub(crate) fn has_all_foreign(&self, texts: &[&str]) -> bool {
+        let count = texts.iter().filter(|text| **text == FOREIGN).count();
+        self.foreign.is_empty() || count == self.foreign.len()
+    }
 
-/// The names of files that words are.
-pub(crate) fn names_of_words(
-    alloc: Global,
-    words: &[&str],
-    foreign: &[Foreign],
-) -> Result<Vec<Name>, AllocError> {
-    let mut names = Vec::new(alloc);
-    for word in words {
-        let bytes = Vec::from_slice(alloc, bytes_of(word, foreign))?;
-        if let Ok(name) = Name::new(bytes) {
-            names.push(name)?;
+    /// The names of files that these words are, among which are all that are not UTF-8.
+    pub(crate) fn names(&self, alloc: Global, texts: &[&str]) -> Result<Vec<Name>, AllocError>
+        requires { All (λ text. IsName text.now) texts.now }
+    {
+        if self.foreign.is_empty() {
+            return names_of(alloc, texts);
         }
+        let mut names = Vec::new(alloc);
+        let mut foreign = self.foreign.iter();
+        for text in texts {
+            let mut bytes = text.as_bytes();
+            if *text == FOREIGN {
+                bytes = foreign.next().map(|word| word.as_slice()).unwrap_or(bytes);
+            }
+            if let Ok(name) = Name::new(Vec::from_slice(alloc, bytes)?) {
+                names.push(name)?;
+            }
+        }
+        Ok(names)
     }
-    Ok(names)
 }
 
-/// The fault of words that are not UTF-8 and do not name files.
-pub(crate) fn no_files(alloc: Global) -> Fault {
-    match not_text(alloc) {
-        Ok(fault) => fault,
+/// The fault of a word that is not UTF-8 and doesn't name a file to hash.
+pub(crate) fn not_text(alloc: Global) -> Fault {
+    match String::from_str(alloc, "b3store: an argument is not UTF-8\n") {
+        Ok(text) => Fault::Usage(text),
         Err(_) => Fault::NoMemory,
     }
 }

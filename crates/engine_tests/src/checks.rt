@@ -7,7 +7,7 @@ use hash_engines::{Cause, HashThreads, SumLine, SumMode, SumRequest, Verdict, ch
 use std::test::Fail;
 
 #[test]
-fn a_sum_is_checked(rt: HostRuntime) -> Result<(), Fail> {
+fn check_reads_the_line_that_sum_writes(rt: HostRuntime) -> Result<(), Fail> {
     let alloc = rt.alloc();
     let mut work = Work::new(&rt);
     let mut reader = b"abc".as_slice();
@@ -40,7 +40,7 @@ fn a_sum_is_checked(rt: HostRuntime) -> Result<(), Fail> {
 }
 
 #[test]
-fn what_is_written_is_verified(rt: HostRuntime) -> Result<(), Fail> {
+fn verify_reads_the_lines_that_write_writes(rt: HostRuntime) -> Result<(), Fail> {
     let alloc = rt.alloc();
     let Ok(line) = Line::new([0; 32], Vec::from_slice(alloc, b"f")?) else {
         return Err(Fail::new("no line"));
@@ -63,7 +63,7 @@ fn what_is_written_is_verified(rt: HostRuntime) -> Result<(), Fail> {
 }
 
 #[test]
-fn a_name_without_memory_is_the_last(rt: HostRuntime) -> Result<(), Fail> {
+fn check_ends_at_a_name_without_memory(rt: HostRuntime) -> Result<(), Fail> {
     let mut reader =
         b"6437b3ac38465133ffb63b75273a8db548c558465d79db03fd359c6cd5bd9d85  f\n6437b3ac38465133ffb63b75273a8db548c558465d79db03fd359c6cd5bd9d85  g\n".as_slice();
     let mut names = NoNames::new(false);

@@ -159,7 +159,7 @@ fn is_said(alloc: Global, words: &[&str], wanted: &str) -> bool {
 }
 
 #[test]
-fn words_say_options(rt: HostRuntime) {
+fn arguments_are_parsed_as_options(rt: HostRuntime) {
     for (words, wanted) in SAID {
         assert!(rt; is_said(rt.alloc(), words, wanted), "{wanted}");
     }

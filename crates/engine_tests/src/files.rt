@@ -109,7 +109,7 @@ fn root_of<T: Threads + Runtime + AllocGlobal>(
 }
 
 #[test]
-fn the_reported_length_does_not_matter(rt: HostRuntime) {
+fn a_hash_does_not_depend_on_the_reported_length(rt: HostRuntime) {
     let wanted = Top::of_input(&Mode::hash(), bytes_from(0), &mut Work::new(&rt));
     for len in [
         None,
@@ -125,7 +125,7 @@ fn the_reported_length_does_not_matter(rt: HostRuntime) {
 }
 
 #[test]
-fn names_without_files_are_missing(rt: HostRuntime) {
+fn a_name_without_a_file_is_missing_or_not_utf8(rt: HostRuntime) {
     let missing = root_of(&rt, None, b"there");
     let foreign = root_of(&rt, None, b"\xff");
     let is_missing = missing == Err(FileFault::Failed(Reason::Missing));

@@ -73,7 +73,7 @@ fn is_answered<R: AllocGlobal + Runtime + Abort>(rt: &R) -> bool {
 // Whichever allocation fails, the script is answered in the end, since no second one fails. So a run that always reports running out of
 // memory fails the test.
 #[test]
-fn run_script(rt: HostRuntime) {
+fn a_script_is_answered_whichever_allocation_fails(rt: HostRuntime) {
     if !is_answered(&rt) {
         assert!(rt; is_answered(&rt));
     }

@@ -2,20 +2,20 @@
 
 ghost use Rattle.std.specs.Prelude.{◌≡◌, [], IfOk, Some};
 ghost use Rattle.store_engines.specs.Audits.{audit_text};
-ghost use Rattle.store_engines.specs.Journals.{journal_verdict};
+ghost use Rattle.store_engines.specs.Journals.{journal_fault};
 ghost use Rattle.store_engines.specs.Migrations.{migrate_text};
 ghost use Rattle.store_lines.specs.Script.{Ran, verdict_ending};
 ghost use Rattle.store_lines.specs.Session.{ServedAll};
 
 use b3_core::Work;
 use std::alloc::Global;
-use store_engines::{Cause, Verdict, audit, migrate};
+use store_engines::{Cause, JournalFault, Verdict, audit, migrate};
 use store_lines::{run, serve};
 
 // What is written, and how it ended.
-type Written = (Vec<u8>, Result<Verdict, Cause>);
+type Written<E> = (Vec<u8>, Result<E, Cause>);
 
-fn ran(alloc: Global, script: &[u8], work: &mut Work) -> Written
+fn ran(alloc: Global, script: &[u8], work: &mut Work) -> Written<Verdict>
     ensures { IfOk result.1 (λ verdict. Ran script.now (Some []) (Some result.0.items) (verdict_ending verdict)) }
 {
     let (mut reader, mut writer) = (script, Vec::new(alloc));
@@ -23,7 +23,7 @@ fn ran(alloc: Global, script: &[u8], work: &mut Work) -> Written
     (writer, ended)
 }
 
-fn served(alloc: Global, lines: &[u8], work: &mut Work) -> Written
+fn served(alloc: Global, lines: &[u8], work: &mut Work) -> Written<Verdict>
     ensures { IfOk result.1 (λ verdict. ServedAll lines.now (Some []) (Some result.0.items) verdict) }
 {
     let (mut reader, mut writer) = (lines, Vec::new(alloc));
@@ -31,26 +31,32 @@ fn served(alloc: Global, lines: &[u8], work: &mut Work) -> Written
     (writer, ended)
 }
 
-fn audited(alloc: Global, journal: &[u8]) -> Written
-    ensures { IfOk result.1 (λ verdict. (verdict ≡ journal_verdict journal.now) × (result.0.items ≡ audit_text journal.now)) }
+fn audited(alloc: Global, journal: &[u8]) -> Written<Option<JournalFault>>
+    ensures { IfOk result.1 (λ fault. (fault ≡ journal_fault journal.now) × (result.0.items ≡ audit_text journal.now)) }
 {
     let (mut reader, mut writer) = (journal, Vec::new(alloc));
     let ended = audit(alloc, &mut reader, &mut writer);
     (writer, ended)
 }
 
-fn migrated(alloc: Global, journal: &[u8]) -> Written
-    ensures { IfOk result.1 (λ verdict. (verdict ≡ journal_verdict journal.now) × (result.0.items ≡ migrate_text journal.now)) }
+fn migrated(alloc: Global, journal: &[u8]) -> Written<Option<JournalFault>>
+    ensures { IfOk result.1 (λ fault. (fault ≡ journal_fault journal.now) × (result.0.items ≡ migrate_text journal.now)) }
 {
     let (mut reader, mut writer) = (journal, Vec::new(alloc));
     let ended = migrate(alloc, &mut reader, &mut writer);
     (writer, ended)
 }
 
-// Whether the engine succeeded and wrote this text.
-fn is_good(written: Written, text: &[u8]) -> bool {
+// Whether the engine wrote this text, and refused nothing.
+fn is_good(written: Written<Verdict>, text: &[u8]) -> bool {
     let (bytes, ended) = written;
     ended == Ok(Verdict::Good) && bytes.as_slice() == text
+}
+
+// Whether the engine wrote this text, and did not refuse the journal.
+fn is_legal(written: Written<Option<JournalFault>>, text: &[u8]) -> bool {
+    let (bytes, ended) = written;
+    ended == Ok(None) && bytes.as_slice() == text
 }
 
 #[test]
@@ -65,11 +71,11 @@ fn engines_answer_bytes_in_memory(rt: HostRuntime) {
         served(alloc, b"tenant 5\ntenants\n", &mut work),
         b"tenant 0\ntenants 1\n0 0 0 5\n",
     );
-    let is_audited = is_good(
+    let is_audited = is_legal(
         audited(alloc, b"tenant 0 5\n"),
         b"objects 0 bytes 0 uploads 0 held 0 parts 0\naccepted 0 0\n",
     );
-    let is_migrated = is_good(
+    let is_migrated = is_legal(
         migrated(alloc, b"tenant 0 5\n"),
         b"b3store-journal 2\ntenant 0 5\n",
     );

@@ -9,7 +9,7 @@ use hash_engines::{Cause, HashThreads, SumLine, SumMode, SumRequest, Verdict, ch
 use std::io::BufReader;
 use std::sync::Wait;
 use std::thread::Threads;
-use store_engines::{UploadOptions, audit, migrate};
+use store_engines::{JournalFault, UploadOptions, audit, migrate};
 use store_lines::{run, serve};
 
 #[derive(Clone, Copy, PartialEq, Eq)]
@@ -139,6 +139,15 @@ fn summed<R: Threads + AllocGlobal + Runtime>(
     }
 }
 
+// The verdict on a journal.
+fn judged(found: Result<Option<JournalFault>, Cause>) -> Result<Verdict, Cause> {
+    match found {
+        Ok(None) => Ok(Verdict::Good),
+        Ok(Some(_)) => Ok(Verdict::Refused),
+        Err(cause) => Err(cause),
+    }
+}
+
 // The result of an engine.
 fn ended<R: Threads + Wait + Sync + AllocGlobal + Runtime>(
     rt: &R,
@@ -148,9 +157,9 @@ fn ended<R: Threads + Wait + Sync + AllocGlobal + Runtime>(
     writer: &mut ByteWriter,
 ) -> Result<Verdict, Cause> {
     match engine {
-        Engine::Audit => audit(rt.alloc(), reader, writer),
+        Engine::Audit => judged(audit(rt.alloc(), reader, writer)),
         Engine::Check => check(rt.alloc(), ALL, names, reader, writer),
-        Engine::Migrate => migrate(rt.alloc(), reader, writer),
+        Engine::Migrate => judged(migrate(rt.alloc(), reader, writer)),
         Engine::Run => answers(rt, false, reader, writer),
         Engine::Serve => answers(rt, true, reader, writer),
         Engine::Sum => summed(rt, reader, writer),

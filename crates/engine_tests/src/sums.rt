@@ -42,7 +42,7 @@ fn is_summed<R: AllocGlobal + Runtime>(
 }
 
 #[test]
-fn names_are_answered_in_order(rt: HostRuntime) {
+fn sum_writes_lines_in_the_order_of_the_names(rt: HostRuntime) {
     let names = names_of(rt.alloc(), &["x", "abc", "y", "abc"]).expect(&rt, "memory for the names");
     let wanted = Summed {
         ended: Ok(Verdict::Refused),
@@ -54,7 +54,7 @@ fn names_are_answered_in_order(rt: HostRuntime) {
 }
 
 #[test]
-fn a_length_leaves_names_out(rt: HostRuntime) {
+fn sum_writes_no_name_beside_extended_output(rt: HostRuntime) {
     let names = names_of(rt.alloc(), &["abc", "abc"]).expect(&rt, "memory for the names");
     let wanted = Summed {
         ended: Ok(Verdict::Good),
@@ -66,7 +66,7 @@ fn a_length_leaves_names_out(rt: HostRuntime) {
 }
 
 #[test]
-fn sources_without_memory_end_it(rt: HostRuntime) {
+fn sum_ends_when_a_source_has_no_memory(rt: HostRuntime) {
     let names = names_of(rt.alloc(), &["abc", "full", "abc"]).expect(&rt, "memory for the names");
     let wanted = Summed {
         ended: Err(Cause::OutOfMemory),
@@ -91,7 +91,7 @@ fn asks<R: AllocGlobal + Runtime>(rt: &R, names: &[Name], calls: &[u8]) -> bool 
 }
 
 #[test]
-fn names_are_reported_before_they_are_asked_for(rt: HostRuntime) {
+fn sum_announces_names_before_it_asks_for_them(rt: HostRuntime) {
     let names = names_of(rt.alloc(), &["x", "abc", "-"]).expect(&rt, "memory for the names");
     assert!(rt; asks(&rt, names.as_slice(), b" x abc -;x? abc -;abc? -;-?"));
 }
@@ -112,7 +112,7 @@ fn is_ended<R: AllocGlobal + Runtime>(rt: &R, names: &[Name], fails_at: u64, cal
 
 // A line has 70 bytes and a flush.
 #[test]
-fn a_failed_write_ends_it(rt: HostRuntime) {
+fn sum_ends_at_the_first_failed_write(rt: HostRuntime) {
     let names = names_of(rt.alloc(), &["abc", "abc", "abc"]).expect(&rt, "memory for the names");
     for fails_at in 0..142u64 {
         let calls = if fails_at < 71 { 1u64 } else { 2 };

@@ -47,7 +47,7 @@ IsStopped gives options old input CannotRead new before after = IsIdle old new b
 IsStopped gives options old input CannotWrite new before after = IsCut gives options old (file_at input) new before after
 IsStopped gives options old input OutOfMemory new before after = IsIdle old new before after ⊎ EndsForMemory gives options old (file_at input) new before after
 
--- the same for a failed read, whatever the input is
+-- after a failed read nothing was asked or written, whatever the input is
 abbrev pub IsUntouched : {S : Type 0} → S → S → Option (List ℕ) → Option (List ℕ) → Cause → Type 0
 IsUntouched old new before after CannotRead = IsIdle old new before after
 IsUntouched old new before after CannotWrite = Unit {0}

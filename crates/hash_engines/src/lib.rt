@@ -38,6 +38,11 @@
 //!
 //! Contracts know what a reader returns, what a writer accepted and which bytes a file system has at a path if the types specify it, as
 //! slices and vectors do. The texts and verdicts are defined in `specs/`: `Sums`, `Checks`, `Keys` and `Lists`.
+//!
+//! What the system does is not proved: that the runtime opens the file at a path, returns its length, and reads its bytes at an offset.
+//! Nothing is known of the bytes at a path (`system_bytes`), and only the call that opens a file unfolds that.
+//!
+//! `Sources` also prints why a file can't be read, so that contracts state the order of hashes and messages.
 #![tactic(auto)]
 
 mod ahead;

@@ -8,8 +8,8 @@ use Rattle.std.proofs.lemmas.List.Elements.{filter-append}
 use Rattle.std.proofs.lemmas.Bool.Decides.{nat_tests}
 use Rattle.crossbeam_queue.specs.Fifo.{Pushes, Pops, Forks, Merges, Learns, Held}
 use Rattle.crossbeam_queue.proofs.Lists.{at_set, at_snoc}
-use Rattle.store_board.specs.declared.hand_over.taken.Taken.{Taken}
-use Rattle.store_board.specs.declared.hand_over.view.PassView.{PassView}
+use Rattle.store_board.specs.declared.passes.Taken.{Taken}
+use Rattle.store_board.specs.declared.passes.PassView.{PassView}
 use Rattle.store_board.specs.HandOverRule.{of_giver, taker_view, first_view, giver_view, parting_view, spent_view, giving_view, taking_view, sum_view, for_later, passes_of, HandOverRule, With, Starts, KeepsGiving, KeepsTaking, KeepsJoining, IsSeenWith}
 use Rattle.store_board.specs.inner.HandOverRule.{Ended}
 use Rattle.store_ledger.proofs.Sums.{pos_or_zero, hit, hit_self, sum_at, two_le, alone}
@@ -186,11 +186,11 @@ ends id v whole root items views h at =
       omega (arith, h.count, count, ap length mine),
     )
 
--- the same for a view that is known to be the taker's
+-- a giver's pass is split off a view that is known to be the taker's
 pub forks_at : (id rights from : ℕ) (v : PassView) → v ≡ taker_view rights from → 1 < rights → Forks HandOverRule id v (parting_view v) (giver_view v.next_giver)
 forks_at id rights from v is some_left = subst (λ u. Forks HandOverRule id u (parting_view u) (giver_view u.next_giver)) (sym is) (forks id rights from some_left)
 
--- the same steps, with a caller's rule
+-- ---- steps that keep a caller's rule too
 
 pub pushes_with : (seen : List Taken → List PassView → Type 0) (n id : ℕ) (v : PassView) (x : Taken) → 0 < v.rights → v.taker ≡ 0 → v.givers ≡ x.giver ∷ [] → KeepsGiving seen id v x → Pushes (With seen) n id v x (λ w. w ≡ giving_view v x)
 pushes_with seen n id v x right no_root mine keeps items views room h at =

@@ -21,18 +21,16 @@
 #![tactic(auto)]
 
 mod board;
+mod board_rule;
 mod hand_over;
+mod hand_over_rule;
+mod passes;
+mod refusals;
+mod seats;
 
-pub use crate::board::Board;
-pub use crate::board::draw::Draw;
-pub use crate::board::drawn::Drawn;
-pub use crate::board::refusal::BoardRefusal;
-pub use crate::board::seat::BoardSeat;
-pub use crate::hand_over::HandOver;
-pub use crate::hand_over::give_pass::GivePass;
-pub use crate::hand_over::moved::Moved;
-pub use crate::hand_over::refusal::HandOverRefusal;
-pub use crate::hand_over::take_pass::TakePass;
-pub use crate::hand_over::taken::Taken;
-pub use crate::hand_over::whole_pass::WholePass;
-pub use crate::hand_over::witness::{Unasked, Witness};
+pub use board::{Board, Draw, Drawn};
+pub use hand_over::{HandOver, Moved};
+pub use hand_over_rule::{Unasked, Witness};
+pub use passes::{GivePass, TakePass, Taken, WholePass};
+pub use refusals::{BoardRefusal, HandOverRefusal};
+pub use seats::BoardSeat;

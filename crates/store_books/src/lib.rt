@@ -8,6 +8,14 @@
 //!
 //! In contracts books are lists (`specs/Books.antt`), and each command is its refusals in order and its result (`specs/Commands.antt`).
 //! `forgetting_laws` states that both depend only on the lengths of parts and the labels of objects.
+//!
+//! `sound_laws` states that an accepted command keeps use and reservation within limits, and stores at most 2^24 bytes; `page_laws` that
+//! two pages that follow each other are the page of both counts. A seal has two reasons in turn: those against its upload
+//! (`ready_refusal`), and those against filing its content (`file_refusal`).
+//!
+//! An object is kept under the number of the entry by which it was filed, so a list is in filing order and a forget moves no other object.
+//! One set of pairs, each a tenant and such a number, says who holds what: a set for each tenant would take memory for tenants that hold
+//! nothing.
 #![tactic(auto)]
 
 mod accounts;

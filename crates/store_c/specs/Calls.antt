@@ -45,7 +45,7 @@ removed_seen removed = removed_bytes removed
 abbrev pub Takes : {R M C : Type 0} → (R → M) → (R → C) → Result (Acceptance M) Refusal → ModelStore → Outcome C → ModelStore → Type 0
 Takes {R} seen shown step s o t = (result : Result R Refusal) × StepsAs seen step s result t × Reports (reply_seen shown result) o
 
--- The same on the store that a handle keeps. Without a store the answer is 64, and nothing changes.
+-- A command on the store that a handle keeps. Without a store the answer is 64, and nothing changes.
 abbrev pub Commands : {R M C : Type 0} → (R → M) → (R → C) → (ModelStoreBooks → Result (Acceptance M) Refusal) → Option Kept → Outcome C → Option Kept → Type 0
 Commands {R} seen shown command old o new = OnStore old
     (λ s. (t : ModelStore) × Takes {R = R} seen shown (command s.state) s o t × (new ≡ Some (kept.Store t)))

@@ -64,6 +64,6 @@ abbrev pub part_for : List ℕ → Option ModelPrepared
 part_for [] = None
 part_for (b ∷ bytes) = Some (planned (closed_plan (length (b ∷ bytes))) 0 (b ∷ bytes))
 
--- the same on the store that a handle keeps
+-- what a call files in the store that a handle keeps
 abbrev pub FilesIn : Option Kept → ℕ → List ℕ → Outcome SealedObject → ℕ → Option Kept → Type 0
 FilesIn old tenant bytes o left new = OnStore old (λ s. (t : ModelStore) × Files tenant (length bytes) (part_for bytes) s o left t × (new ≡ Some (kept.Store t))) ⊥

@@ -27,7 +27,7 @@ OnBytes (Some (kept.Object o)) holds otherwise = holds o
 OnBytes (Some (kept.Text t)) holds otherwise = holds t.items
 OnBytes _ holds otherwise = otherwise
 
--- the same of the lists
+-- what is so of the list that a handle keeps, and what if it keeps none of that kind
 abbrev pub OnObjects : Option Kept → (List (List ℕ × ℕ) → Type 0) → Type 0 → Type 0
 OnObjects (Some (kept.Objects items)) holds otherwise = holds items
 OnObjects _ holds otherwise = otherwise

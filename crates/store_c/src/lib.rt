@@ -13,6 +13,8 @@
 //! - `lists`: `b3store_list`, `b3store_uploads`, `b3store_tenants`; `rows` copies their rows in pages.
 //! - `totals`: `b3store_totals`, `b3store_entries`.
 //! - `lines`: `b3store_journal`, and `b3store_lines` for all else.
+//!
+//! A list, a text or an object in a handle is a value of its own, so its rows and bytes are copied without the store, and without a lock.
 #![tactic(auto)]
 
 mod answers;

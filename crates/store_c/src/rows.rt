@@ -106,7 +106,8 @@ pub extern "C" fn b3store_object_rows(
     answer
 }
 
-/// The same of a list of open uploads.
+/// Copies the rows of a list of open uploads starting at `from`, as many as fit, and stores their number. It reads no store. Returns 64 if the
+/// handle keeps no such list.
 #[unsafe(no_mangle)]
 pub extern "C" fn b3store_upload_rows(
     alloc: Global,
@@ -133,7 +134,8 @@ pub extern "C" fn b3store_upload_rows(
     answer
 }
 
-/// The same of a list of tenants.
+/// Copies the rows of a list of tenants starting at `from`, as many as fit, and stores their number. It reads no store. Returns 64 if the
+/// handle keeps no such list.
 #[unsafe(no_mangle)]
 pub extern "C" fn b3store_tenant_rows(
     alloc: Global,

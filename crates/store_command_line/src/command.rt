@@ -483,7 +483,7 @@ fn answering_program<'a>(alloc: Global) -> Result<Command<'a>, AllocError>
         .subcommand(serve)
 }
 
-// The same, with the subcommand that stores an input.
+// The program's command with the subcommands that hash an input, answer lines, and store an input.
 fn storing_program<'a>(alloc: Global) -> Result<Command<'a>, AllocError>
     ensures shape { IfOk result (λ c. app_of c ≡ storing_line) }
     ensures local { IfOk result (λ c. (fields_of c).has_globals ≡ false) }

@@ -17,6 +17,8 @@
 //! the subcommand that was given, with the values of its arguments. `specs/Ranges.antt` states what else holds for options: numbers are
 //! within their ranges, and names can be in a check line. Arguments are accepted if and only if clap finds no fault in them and they result
 //! in such options, unless an allocation fails. No clause describes the text of a usage fault.
+//!
+//! Numbers are tested again after clap, whose contract states no ranges for the options of a subcommand, and which accepts a sign.
 #![tactic(auto)]
 
 mod command;

@@ -1,3 +1,4 @@
+pub mod Lookups
 pub mod Fitting
 pub mod Widest
 pub mod Carried
@@ -9,3 +10,7 @@ pub mod Parts
 pub mod Runs
 pub mod Cuts
 pub mod Redoing
+pub mod Holding
+pub mod Replaying
+pub mod Following
+pub mod Accepting

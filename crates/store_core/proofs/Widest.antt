@@ -1,5 +1,5 @@
 -- Books under the widest limits: what is not refused is not refused there, and what a command leaves is the same.
-use Rattle.std.proofs.Common.{◌≡◌, ◌<◌, ◌≤◌, ℕ, Bool, true, false, List, Option, Some, None, refl, sym, arith, length}
+use Rattle.std.proofs.Common.{◌≡◌, ◌≤◌, ℕ, Bool, true, false, List, Option, Some, None, refl, sym, arith, length}
 use Rattle.std.specs.Prelude.{◌+◌, if◌then◌else◌, nat_le, nat_lt, option_map}
 use Rattle.std.specs.Option.{option_map_or, option_or}
 use Rattle.std.proofs.lemmas.Bool.{leb-false, lt-leb}

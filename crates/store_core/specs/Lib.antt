@@ -6,4 +6,5 @@ pub mod Questions
 pub mod Carried
 pub mod Runs
 pub mod Seen
+pub mod Following
 pub mod inner

@@ -21,6 +21,10 @@
 //! - `run_laws` states that this invariant holds along every list of commands and questions.
 //! - Names, limits and refusals come from `store_books`; the journal's entries, text and replay come from `store_journal`. All can be named
 //!   from here too.
+//!
+//! A command asks the books for its first refusal, then makes room for its entry, and only then changes something. The books know neither
+//! the plan for which a part was made (S8) nor a hash (S11), so these two are tested here. Objects are found by a hash table: addresses are
+//! hashes, which spread evenly. The store keeps the tenant of each upload begun, so that `redo` doesn't search the journal for it.
 #![tactic(auto)]
 
 mod address_map;

@@ -5,6 +5,9 @@
 //!
 //! This is the only crate with code that the compiler can't check, and only the C library uses it: `Loose::into_box` makes a box from a
 //! pointer, and `Handle` is declared `Send`. Both are proved by hand, as is every function that makes a `Handle` or a `Loose` or opens one.
+//!
+//! One enum has all kinds of values, so a handle of the wrong kind is reported by a number. `crosses_threads` has no clause: it compiles
+//! only because a handle is `Send`.
 #![tactic(auto)]
 
 ghost use Rattle.std.specs.Prelude.{◌≡◌, None, Option, Some, option_map};

@@ -1,6 +1,5 @@
 mod Accepted
 mod Along
-mod Lookups
 mod ObjectsStay
 mod Promises
 mod Slices

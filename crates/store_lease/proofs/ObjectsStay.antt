@@ -17,38 +17,21 @@ use Rattle.store_core.specs.Model.{ModelObject, ModelStore, ModelStoreBooks}
 use Rattle.store_core.specs.Runs.{Call, ask, change, put, replied}
 use Rattle.store_core.specs.declared.command.Command.TheVariants as commands
 use Rattle.store_core.specs.declared.store.questions.Reply.TheVariants as replies
+use Rattle.store_core.proofs.Lookups.{apart_keys, found_front, found_last, removed_apart, set_apart, set_here}
 use Rattle.store_upload.proofs.Places.{some_is}
 use Rattle.store_shared.specs.Made.{advanced_by, after_call}
 use Rattle.store_lease.specs.Laws.{forgets}
 use Rattle.store_lease.proofs.Along.{if_accepted_keeps, then_keeps}
-use Rattle.store_lease.proofs.Lookups.{front_by, last_by, removed_apart, set_apart, set_here}
 
 -- ---- objects
 
 module _ {O : Type 0} (address : O → List ℕ) where
-  -- what is found is found when more objects follow
-  found_front : (os more : List (Filed O)) (at : List ℕ) (o : Filed O) → object_among address os at ≡ Some o → object_among address (os ++ more) at ≡ Some o
-  found_front [] more at o found = absurd (cc)
-  found_front (x ∷ os) more at o found = front_by (bytes_eq at (address x.content)) x o (object_among address os at) (object_among address (os ++ more) at) found (λ there. found_front os more at o there)
-
-  -- and what is filed last, where nothing stood under its address
-  found_last : (os : List (Filed O)) (o : Filed O) (at : List ℕ) → at ≡ address o.content → object_among address os at ≡ None → object_among address (os ++ o ∷ []) at ≡ Some o
-  found_last [] o at is none = ap (λ (c : Bool). cond c (Some o) None) ((bytes_eq-Decides at (address o.content)).1 is)
-  found_last (x ∷ os) o at is none = last_by (bytes_eq at (address x.content)) x o (object_among address os at) (object_among address (os ++ o ∷ []) at) none (λ there. found_last os o at is there)
-
   -- the tenant holds this content at the address
   pub record Among (os : List (Filed O)) (tenant : ℕ) (at : List ℕ) (content : O) : Type 0 where
     pub object : Filed O
     pub found : object_among address os at ≡ Some object
     pub same : object.content ≡ content
     pub held : is_held_by tenant object ≡ true
-
-  apart_keys : (at other : List ℕ) → bytes_eq other at ≡ false → (k : List ℕ) → bytes_eq other k ≡ true → bytes_eq at k ≡ false
-  apart_keys at other apart k is = by (bytes_eq at k) refl
-    where
-      by : (b : Bool) → bytes_eq at k ≡ b → b ≡ false
-      by true same = absurd (true≢false (sym ((bytes_eq-Decides other at).1 ((bytes_eq-Decides other k).0 is ∙ sym ((bytes_eq-Decides at k).0 same))) ∙ apart))
-      by false same = refl
 
   held_removed : (os : List (Filed O)) (at other : List ℕ) (tenant : ℕ) (content : O) (b : Bool) → bytes_eq other at ≡ b → (b ≡ true → ⊥) → (b ≡ false → Among os tenant at content) → Among (values_of (remove_entry (bytes_eq other) (addressed address os))) tenant at content
   held_removed os at other tenant content true is never others = absurd (never refl)

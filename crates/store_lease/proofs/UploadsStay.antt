@@ -27,7 +27,7 @@ use Rattle.b3_core.specs.Modes.{hash_of}
 use Rattle.store_shared.specs.Made.{IsFitting, advanced_by, after_call}
 use Rattle.store_lease.specs.Laws.{HoldsPart, IsOpen, ends}
 use Rattle.store_lease.proofs.Along.{if_accepted_keeps, then_keeps}
-use Rattle.store_lease.proofs.Lookups.{lookup_front, lookup_last, removed_apart, set_apart, set_here}
+use Rattle.store_core.proofs.Lookups.{lookup_front, lookup_last, removed_apart, set_apart, set_here}
 
 -- one number is not another one
 apart_numbers : (n m : ℕ) → (m == n) ≡ false → (k : ℕ) → is_number m k ≡ true → is_number n k ≡ false

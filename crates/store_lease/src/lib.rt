@@ -14,6 +14,8 @@
 //!
 //! All entries of an answer are those of one moment. If an allocation fails for their copy, the answer is `refused S14`, and the session
 //! continues.
+//!
+//! A `Lease` is generic over the locked store: one that makes one more command doesn't compile, or has one more call of its own.
 #![tactic(auto)]
 
 mod laws;

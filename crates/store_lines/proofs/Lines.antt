@@ -46,8 +46,8 @@ asks_this read kept line request is_kept short is asks = record {
 
 -- ---- a line of a script
 
-pub lost_line : (read : LineRead) (kept : List ℕ) → read.is_kept ≡ false → IsScriptFound read kept lines.Lost
-lost_line read kept lost = record { is = λ whole h. inl (omega (arith, h.long lost, strip_shorter whole)) }
+pub no_memory_line : (read : LineRead) (kept : List ℕ) → read.is_kept ≡ false → IsScriptFound read kept lines.NoMemory
+no_memory_line read kept lost = record { is = λ whole h. inl (omega (arith, h.long lost, strip_shorter whole)) }
 
 pub long_line : (read : LineRead) (kept : List ℕ) → 33554481 < read.count → IsScriptFound read kept lines.Bad
 long_line read kept long = record {
@@ -68,7 +68,7 @@ kept_line read kept line found is_kept few is h = record {
 script_or_own : (whole : List ℕ) (found : Line) → None ≡ request_in whole → IsLineOf (strip_last 10 whole) found → IsOwnOrScript whole found
 script_or_own whole lines.Empty none h = (none, h)
 script_or_own whole lines.Bad none h = (none, h)
-script_or_own whole lines.Lost none h = (none, h)
+script_or_own whole lines.NoMemory none h = (none, h)
 script_or_own whole (lines.Has request) none h = inr (none, h)
 
 pub script_found : (read : LineRead) (kept : List ℕ) (got : Option Request) (found : Line) → got ≡ None → AsksFor read kept got → IsScriptFound read kept found → IsFound read kept found

@@ -15,7 +15,7 @@ use Rattle.store_core.specs.declared.store.questions.Question.TheVariants as que
 use Rattle.edge.proofs.FieldTexts.{split_again, split_found, decimal_spaceless, number_again, two_again, two_found}
 use Rattle.edge.proofs.Steps.{bind_is, bind_some, chosen, none_some, some_is}
 use Rattle.edge.proofs.Numbers.{read_back}
-use Rattle.store_lines.specs.Grammar.{abort_command, address_of_digits, asks_of_kind, begin_command, begin_open_command, bytes_of_kind, colon, command_at, decoded, digits_at, fetch_command, fix_command, forget_command, held_at, list_command, max_digits, max_pattern, open_tenant_command, part_bytes_at, pattern_at, pattern_of, puts_at, seal_as_command, seal_command, set_limit_command, split_line_at, usage_command, whole_journal, word_command}
+use Rattle.store_lines.specs.Grammar.{abort_command, address_of_digits, script_request_of_kind, begin_command, begin_open_command, bytes_of_kind, colon, command_at, decoded, digits_at, fetch_command, fix_command, forget_command, held_at, list_command, max_digits, max_pattern, open_tenant_command, part_bytes_at, pattern_at, pattern_of, puts_at, seal_as_command, seal_command, set_limit_command, split_line_at, usage_command, whole_journal, word_command}
 use Rattle.store_lines.specs.declared.request.EntryRange.{EntryRange}
 use Rattle.store_lines.specs.declared.request.Request.{Request}
 use Rattle.store_lines.specs.declared.request.Request.TheVariants.{Asks, Does, Entries, Put}
@@ -125,9 +125,9 @@ forget_found fields command h = held_command_found (codes "forget ") fields (λ 
 fetch_found : (fields : List ℕ) (command : Request) → fetch_command fields ≡ Some command → IsBy (codes "fetch") fields command
 fetch_found fields command h = held_command_found (codes "fetch ") fields (λ n a. Asks (questions.Fetch n a)) command (λ n a k. k) (bind_some (held_at fields) _ command h)
 
-asks_found : (kind fields : List ℕ) (command : Request) → asks_of_kind kind fields ≡ Some command → IsBy kind fields command
-unfolding asks_of_kind
-asks_found kind fields command =
+script_request_found : (kind fields : List ℕ) (command : Request) → script_request_of_kind kind fields ≡ Some command → IsBy kind fields command
+unfolding script_request_of_kind
+script_request_found kind fields command =
     by_kind kind (codes "tenant") fields _ _ command (tenant_found fields command)
     (by_kind kind (codes "limit") fields _ _ command (limit_found fields command)
     (by_kind kind (codes "begin") fields _ _ command (begin_found fields command)
@@ -221,7 +221,7 @@ line_found line (Some cut) command is h =
     let whole = split_found space line cut is in
     subst (λ (w : List ℕ). IsSpelled w command) whole (elim (chosen (bytes_eq cut.0 (codes "put")) (puts_at cut.1) _ (Some command) h) [
       | inl p ↦ subst (λ (w : List ℕ). IsSpelled (w ++ space ∷ cut.1) command) (sym ((bytes_eq-Decides cut.0 (codes "put")).0 p.0)) (puts_found cut.1 command p.1)
-      | inr p ↦ asks_found cut.0 cut.1 command p.1
+      | inr p ↦ script_request_found cut.0 cut.1 command p.1
     ])
 
 pub found : (line : List ℕ) (command : Request) → command_at line ≡ Some command → IsSpelled line command
@@ -247,7 +247,7 @@ puts_again upload offset field bytes u o part =
     ∙ bind_is (number_at (decimal offset)) _ offset (number_again offset o) ∙ bind_is (part_bytes_at offset field) _ bytes (bytes_again offset field bytes part)
 
 done_again : (line : List ℕ) (command : Command) → SpellsCommand line command → command_at line ≡ Some (Does command)
-unfolding split_line_at asks_of_kind
+unfolding split_line_at script_request_of_kind
 done_again line (commands.OpenTenant n) h = ap command_at h.0 ∙ bind_is (number_at (decimal n)) _ n (number_again n h.1)
 done_again line (commands.SetLimit a b) h = ap command_at h.0 ∙ bind_is (two_numbers_at (two_fields (decimal a) (decimal b))) _ (a, b) (two_again a b h.1 h.2)
 done_again line (commands.Begin a b) h = ap command_at h.0 ∙ bind_is (two_numbers_at (two_fields (decimal a) (decimal b))) _ (a, b) (two_again a b h.1 h.2)
@@ -259,7 +259,7 @@ done_again line (commands.Abort n) h = ap command_at h.0 ∙ bind_is (number_at 
 done_again line (commands.Forget n a) h = ap command_at h.1 ∙ bind_is (held_at (two_fields (decimal n) h.0)) _ (n, a) (held_again n h.0 a h.2 h.3)
 
 asked_again : (line : List ℕ) (question : Question) → SpellsQuestion line question → command_at line ≡ Some (Asks question)
-unfolding split_line_at asks_of_kind
+unfolding split_line_at script_request_of_kind
 asked_again line (questions.Fetch n a) h = ap command_at h.1 ∙ bind_is (held_at (two_fields (decimal n) h.0)) _ (n, a) (held_again n h.0 a h.2 h.3)
 asked_again line (questions.Usage n) h = ap command_at h.0 ∙ bind_is (number_at (decimal n)) _ n (number_again n h.1)
 asked_again line (questions.List n) h = ap command_at h.0 ∙ bind_is (number_at (decimal n)) _ n (number_again n h.1)

@@ -11,7 +11,7 @@ use Rattle.store_core.specs.declared.command.Command.TheVariants as commands
 use Rattle.store_core.specs.declared.store.questions.Question.TheVariants as questions
 use Rattle.store_core.specs.Runs.{ask}
 use Rattle.store_core.specs.declared.store.questions.Reply.TheVariants as replies
-use Rattle.store_lines.specs.Grammar.{address_of_digits, asks_of_kind, bytes_of_kind, command_at, pattern_of, split_line_at}
+use Rattle.store_lines.specs.Grammar.{address_of_digits, script_request_of_kind, bytes_of_kind, command_at, pattern_of, split_line_at}
 use Rattle.store_lines.specs.declared.request.Request.{Request}
 use Rattle.store_lines.specs.declared.request.Request.TheVariants.{Asks, Does, Put}
 use Rattle.store_lines.specs.Script.{bad, ending_of, skipped, took, turn_text, unmade}
@@ -19,7 +19,7 @@ use Rattle.store_lines.specs.Questions.{answer_text}
 use Rattle.store_lines.specs.declared.ending.Ending.TheVariants as endings
 
 unfoldable on_literals : ⊤
-unfolding hex_on_literals digits lines_of address_of_digits asks_of_kind bytes_of_kind split_line_at pattern_of
+unfolding hex_on_literals digits lines_of address_of_digits script_request_of_kind bytes_of_kind split_line_at pattern_of
 on_literals = tt
 
 -- ---- lines

@@ -205,10 +205,10 @@ served_bad now Wrote session was Has line same has wrote =
     subst (λ (l : Line). IfSome now (λ following. ServesLineOver session was was Has true l following now Wrote)) (sym same)
     (line_served now Wrote session was Has lines.Bad (reported_as as_script bad) (λ whole h. h) (λ text before is. (refl, plays session.reach before before text bad None is.0 is.1 (refl, refl))) has wrote)
 
-pub served_lost : (now : Option (List ℕ)) (Wrote : List ℕ → Type 0) (session : Session) (was : SessionState → Type 0) (Has : SessionTurn → Type 0) (line : Line) → line ≡ lines.Lost → Has no_memory → Wrote (session_turn_text no_memory) → IfSome now (λ following. ServesLineOver session was was Has true line following now Wrote)
-served_lost now Wrote session was Has line same has wrote =
+pub served_no_memory : (now : Option (List ℕ)) (Wrote : List ℕ → Type 0) (session : Session) (was : SessionState → Type 0) (Has : SessionTurn → Type 0) (line : Line) → line ≡ lines.NoMemory → Has no_memory → Wrote (session_turn_text no_memory) → IfSome now (λ following. ServesLineOver session was was Has true line following now Wrote)
+served_no_memory now Wrote session was Has line same has wrote =
     subst (λ (l : Line). IfSome now (λ following. ServesLineOver session was was Has true l following now Wrote)) (sym same)
-    (line_served now Wrote session was Has lines.Lost no_memory (λ whole h. h) (λ text before may. (may_lack session text may, refl)) has wrote)
+    (line_served now Wrote session was Has lines.NoMemory no_memory (λ whole h. h) (λ text before may. (may_lack session text may, refl)) has wrote)
 
 -- a line that was read
 pub served_read : (is_whole : Bool) (now left : Option (List ℕ)) (Wrote : List ℕ → Type 0) (session : Session) (was is : SessionState → Type 0) (Has : SessionTurn → Type 0) (read : LineRead) (kept : List ℕ) (line : Line) → IsFound read kept line → IfSome now (λ following. ServesLineOver session was is Has is_whole line following left Wrote)

@@ -145,8 +145,8 @@ list_command fields = do
   Some (Asks (questions.List tenant))
 
 -- the command of a word and the fields after it
-unfoldable pub asks_of_kind : List ℕ → List ℕ → Option Request
-asks_of_kind kind fields =
+unfoldable pub script_request_of_kind : List ℕ → List ℕ → Option Request
+script_request_of_kind kind fields =
     if bytes_eq kind (codes "tenant") then open_tenant_command fields
     else if bytes_eq kind (codes "limit") then set_limit_command fields
     else if bytes_eq kind (codes "begin") then begin_command fields
@@ -168,7 +168,7 @@ word_command word = if bytes_eq word (codes "stat") then Some (Asks questions.To
 -- the command of a line that is split after its first word
 unfoldable pub split_line_at : List ℕ → Option (List ℕ × List ℕ) → Option Request
 split_line_at line None = word_command line
-split_line_at line (Some cut) = if bytes_eq cut.0 (codes "put") then puts_at cut.1 else asks_of_kind cut.0 cut.1
+split_line_at line (Some cut) = if bytes_eq cut.0 (codes "put") then puts_at cut.1 else script_request_of_kind cut.0 cut.1
 
 -- the command of a line without its newline, unless the line is outside the grammar
 abbrev pub command_at : List ℕ → Option Request

@@ -10,7 +10,7 @@ ghost use Rattle.std.specs.Io.BufRead.{strip_last};
 
 use crate::ending::Ending;
 use crate::own::chosen;
-use crate::parsing::read_command;
+use crate::parsing::read_script_request;
 use crate::questions::write_answer;
 use crate::receiving::put_bytes;
 use crate::request::{EntryRange, Request};
@@ -138,7 +138,7 @@ fn answer_line(
     if line.is_empty() {
         return Ok(Answer::Nothing);
     }
-    match read_command(alloc, line)? {
+    match read_script_request(alloc, line)? {
         Some(Request::Does(command)) => Ok(Answer::Replied(store.step(command, work))),
         Some(Request::Asks(question)) => Ok(Answer::Replied(store.ask(question))),
         Some(Request::Entries(range)) => Ok(Answer::Entries(range)),

@@ -4,7 +4,7 @@
 //! only through its commands and questions. `serve` answers a session's lines, which are those of a script and some that are followed by
 //! raw bytes.
 //!
-//! docs/FORMATS.md has the lines of a script, docs/COMMANDS.md those that only a session has, each with its answer. They are read as
+//! docs/PROTOCOL.md has the lines of a script and those that only a session has, each with its answer. They are read as
 //! `specs/Grammar.antt`, `specs/Requests.antt` and `specs/Questions.antt` define; answers have the texts of `specs/Texts.antt`,
 //! `specs/Questions.antt` and `specs/Redo.antt`. What belongs to a question of a session is in `src/questions.rt` and `specs/Questions.antt`.
 //!
@@ -27,6 +27,15 @@
 //! They describe a session by `specs/Session.antt`: the turn of each line and what it leaves of the input, from the empty store.
 //! `session_laws` states that the latter depends only on the input. `specs/Turns.antt` says the same over an `Access`: the state that a
 //! step finds is linked to the one that the step before left (`specs/Access.antt`).
+//!
+//! At its end a session aborts the uploads that it began and hasn't ended, in the order of their begins, unless its caller keeps them
+//! (`specs/Owning.antt`). A number is used once, so such an abort never meets another upload. There is room for a number before its `begin`
+//! runs, since a `begin` can't be undone. The numbers are a queue that is searched from its front: ending the oldest upload takes no longer
+//! however many are open.
+//!
+//! `load` runs the lines of a log up to the first one that doesn't pass (`specs/Loading.antt`).
+//!
+//! A line of a script is answered as out of memory, without a step of the model, only if it has at least 200 bytes or begins with `put `.
 #![tactic(auto)]
 
 mod access;

@@ -174,7 +174,7 @@ pub(crate) fn serve_line<A: Access, R: BufRead, W: Write>(
         ),
         Line::Empty => report(writer, Answer::Nothing)?,
         Line::Bad => report(writer, Answer::Bad)?,
-        Line::Lost => refuse(writer, Refusal::NoMemory)?,
+        Line::NoMemory => refuse(writer, Refusal::NoMemory)?,
     }
     Ok(true)
 }

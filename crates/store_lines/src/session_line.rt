@@ -3,7 +3,7 @@
 ghost use Rattle.store_lines.specs.inner.Requests.{IsFound, IsScriptFound, IsScriptLine};
 
 use crate::answer::{MAX_LINE, without_end};
-use crate::parsing::read_command;
+use crate::parsing::read_script_request;
 use crate::request::{Request, request_of};
 use edge::LineRead;
 use std::alloc::Global;
@@ -16,7 +16,7 @@ pub(crate) enum Line {
     /// It is outside the grammar.
     Bad,
     /// An allocation failed for it.
-    Lost,
+    NoMemory,
     /// It has this request.
     Has(Request),
 }
@@ -31,12 +31,12 @@ pub(crate) fn line_of(alloc: Global, line: &[u8], read: LineRead) -> Line
     }
 }
 
-// The same for a line that is not a session's own.
+// What a line is that is not a session's own.
 fn script_line(alloc: Global, line: &[u8], read: LineRead) -> Line
     ensures { IsScriptFound read line.now result }
 {
     if !read.is_kept {
-        return Line::Lost;
+        return Line::NoMemory;
     }
     if read.count > MAX_LINE {
         return Line::Bad;
@@ -44,16 +44,16 @@ fn script_line(alloc: Global, line: &[u8], read: LineRead) -> Line
     kept_line(alloc, without_end(line))
 }
 
-// The same for a line without its newline.
+// What a line of a script is, without its newline.
 fn kept_line(alloc: Global, line: &[u8]) -> Line
     ensures { IsScriptLine line.now result }
 {
     if line.is_empty() {
         return Line::Empty;
     }
-    match read_command(alloc, line) {
+    match read_script_request(alloc, line) {
         Ok(Some(request)) => Line::Has(request),
         Ok(None) => Line::Bad,
-        Err(_) => Line::Lost,
+        Err(_) => Line::NoMemory,
     }
 }

@@ -10,8 +10,8 @@ use Rattle.b3_forest.specs.Parts.{Part}
 use Rattle.store_ledger.specs.Counts.{times}
 use Rattle.store_board.specs.HandOverRule.{of_giver}
 use Rattle.store_board.specs.Passes.{all_given, given_of}
-use Rattle.store_board.specs.declared.hand_over.give_pass.GivePass.{GivePass}
-use Rattle.store_board.specs.declared.hand_over.taken.Taken.{Taken}
+use Rattle.store_board.specs.declared.passes.GivePass.{GivePass}
+use Rattle.store_board.specs.declared.passes.Taken.{Taken}
 use Rattle.store_ledger.specs.declared.amounts.ShareAmounts.{ShareAmounts}
 use Rattle.store_shared.specs.Cuts.{part_at, parts_at}
 use Rattle.store_shared.specs.Gates.{GateRule}

@@ -8,6 +8,9 @@
 //! - `HeldParts` stores the parts of an `Upload`, and `Length` is implemented by a part. An ordered map of lengths implements `HeldParts`.
 //!
 //! In contracts an upload is a list of parts by offset (`specs/Uploads.antt`).
+//!
+//! A store reports F8, F10, F12 and F13 as S9, S10, S15 and S16. A plan is a number and a kind, since the number bounds an upload of either
+//! kind. A part that was made for a plan of the other kind is refused, because other conditions were tested for it.
 #![tactic(auto)]
 
 mod held_parts;

@@ -173,15 +173,6 @@ impl<H: HeldParts> Upload<H> {
         }
     }
 
-    /// The upload's length once it has taken `len` bytes at `offset`, which it can take.
-    pub fn length_with(&self, offset: u64, len: u64) -> u64
-        requires fits { Fits self.now.plan offset len }
-        requires free { place_fault H.Part.len self.now offset len ≡ None }
-        ensures length { (part : H.Part) → H.Part.len part ≡ len → result ≡ length_of (with_more H.Part.len self.now offset part) }
-    {
-        end_with(self.end, offset, len).unwrap_or(self.plan.bound())
-    }
-
     /// Adds a part that fits the plan. If the upload's end is not fixed, a part whose length is not a multiple of 1024 fixes it at the end
     /// of the part. If an allocation fails, the part is returned, and nothing changes.
     pub fn put(&mut self, part: H::Given, work: &mut H::Work) -> Result<(), H::Given>

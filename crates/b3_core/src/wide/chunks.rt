@@ -147,7 +147,7 @@ fn transposed(a: u32x4, b: u32x4, c: u32x4, d: u32x4) -> (u32x4, u32x4, u32x4, u
     (first, second, third, fourth)
 }
 
-// The same for each half separately.
+// The transposes of two 4×4 matrices of words, one in each half of the vectors.
 #[inline(always)]
 fn transposed_halves(a: u32x8, b: u32x8, c: u32x8, d: u32x8) -> (u32x8, u32x8, u32x8, u32x8)
     ensures first { result.0 ≡ across 0 a b c d ++ across 4 a b c d }

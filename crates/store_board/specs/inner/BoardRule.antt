@@ -1,7 +1,7 @@
 -- Definitions for private functions, in addition to specs/BoardRule.
 use Rattle.std.specs.Prelude.{◌≡◌, ℕ, ◌+◌, [], ◌++◌, nat_eq, nat_lt, MatchBool}
 use Rattle.atomic_table.specs.Table.{Me}
-use Rattle.store_board.specs.declared.board.view.SeatView.{SeatView}
+use Rattle.store_board.specs.declared.seats.SeatView.{SeatView}
 use Rattle.store_board.specs.BoardRule.{drawing_view, done_view, stopping_view, seeing_view}
 
 -- the sum of two views

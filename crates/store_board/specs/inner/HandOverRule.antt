@@ -1,7 +1,7 @@
 -- Definitions for private functions, in addition to specs/HandOverRule.
 use Rattle.std.specs.Prelude.{◌≡◌, ℕ, ◌+◌, List, ◌++◌, length}
-use Rattle.store_board.specs.declared.hand_over.taken.Taken.{Taken}
-use Rattle.store_board.specs.declared.hand_over.view.PassView.{PassView}
+use Rattle.store_board.specs.declared.passes.Taken.{Taken}
+use Rattle.store_board.specs.declared.passes.PassView.{PassView}
 use Rattle.store_board.specs.HandOverRule.{of_giver, passes_of}
 
 -- what the pass with every right learns: what was taken, followed by the queue's items, is all that was given

@@ -24,7 +24,7 @@ pub record AsksFor (read : LineRead) (kept : List ℕ) (request : Option Request
 abbrev pub IsLineOf : List ℕ → Line → Type 0
 IsLineOf line lines.Empty = length line ≡ 0
 IsLineOf line lines.Bad = (0 < length line) × (None ≡ command_at line)
-IsLineOf line lines.Lost = MayTakeMemory line
+IsLineOf line lines.NoMemory = MayTakeMemory line
 IsLineOf line (lines.Has request) = (0 < length line) × (Some request ≡ command_at line)
 
 pub record IsScriptLine (line : List ℕ) (found : Line) : Type 0 where

@@ -5,7 +5,7 @@ use Rattle.b3_forest.specs.Followed.{ModelFollow, IsNoted}
 use Rattle.b3_forest.specs.Parts.{Part}
 use Rattle.store_ledger.specs.Counts.{times}
 use Rattle.store_board.specs.HandOverRule.{of_giver}
-use Rattle.store_board.specs.declared.hand_over.taken.Taken.{Taken}
+use Rattle.store_board.specs.declared.passes.Taken.{Taken}
 use Rattle.store_ledger.specs.declared.amounts.ShareAmounts.{ShareAmounts}
 use Rattle.store_shared.specs.Cuts.{AreSomeBelow, RoseBySome, cut_of, share_with, part_at, parts_at}
 use Rattle.store_shared.specs.Gates.{GateRule}

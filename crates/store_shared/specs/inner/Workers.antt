@@ -5,8 +5,8 @@ use Rattle.std.specs.declared.thread.PromisedHandle.{PromisedHandle}
 use Rattle.b3_forest.specs.Borrowed.{borrowed_bytes}
 use Rattle.store_board.specs.Passes.{IsGiverOf, given_of}
 use Rattle.store_board.specs.Seats.{IsSeatOf}
-use Rattle.store_board.specs.declared.hand_over.give_pass.GivePass.{GivePass}
-use Rattle.store_board.specs.declared.hand_over.taken.Taken.{Taken}
+use Rattle.store_board.specs.declared.passes.GivePass.{GivePass}
+use Rattle.store_board.specs.declared.passes.Taken.{Taken}
 use Rattle.store_shared.specs.Cuts.{part_at}
 use Rattle.store_shared.specs.Gates.{GateRule}
 use Rattle.store_shared.specs.inner.Gates.{IsFaultOf}

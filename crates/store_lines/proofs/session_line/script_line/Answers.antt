@@ -1,12 +1,12 @@
 use Rattle.std.proofs.Common.{rules, arith, ◌≡◌, ◌≤◌, ◌<◌, false, true}
 use Rattle.std.specs.Io.BufRead.{strip_last}
-use Rattle.store_lines.proofs.Lines.{kept_line, long_line, lost_line}
+use Rattle.store_lines.proofs.Lines.{kept_line, long_line, no_memory_line}
 use Rattle.store_lines.proofs.session_line.script_line.Goals as goal
 
 pub returns-then-not-read : goal.returns-then-not-read
 returns-then-not-read c =
     let lost : c.args.read.is_kept ≡ false = search rules in
-    lost_line c.args.read c.args.line.now lost
+    no_memory_line c.args.read c.args.line.now lost
 
 pub returns-then-read-gt-MAX_LINE : goal.returns-then-read-gt-MAX_LINE
 returns-then-read-gt-MAX_LINE c =

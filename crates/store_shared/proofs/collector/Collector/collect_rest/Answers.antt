@@ -1,7 +1,7 @@
 use Rattle.std.proofs.Common.{All, [], subst, sym}
 use Rattle.std.proofs.lemmas.List.Elements.{All-map}
 use Rattle.store_board.specs.Passes.{IsGiverOf, taken_of}
-use Rattle.store_board.specs.declared.hand_over.give_pass.GivePass.{GivePass}
+use Rattle.store_board.specs.declared.passes.GivePass.{GivePass}
 use Rattle.store_shared.specs.inner.Uploading.{parts_in}
 use Rattle.store_shared.specs.declared.worker.Report.{Report}
 use Rattle.store_shared.proofs.Noting.{rose_collecting}

@@ -1,5 +1,5 @@
 use Rattle.store_shared.specs.Made.{full_limits}
-use Rattle.b3store.proofs.uploaded.Given as goal
+use Rattle.b3store.proofs.upload_input.Given as goal
 
 abbrev pub ghosts-upload : goal.ghosts-upload
 ghosts-upload g a = record {

@@ -1,6 +1,9 @@
 -- Look-ups in lists of entries of which one is removed, or has another value.
-use Rattle.std.proofs.Common.{◌≡◌, ◌∙◌, Bool, true, false, List, [], ◌∷◌, ◌++◌, Option, Some, None, cond, refl, ap, sym}
+use Rattle.std.proofs.Common.{◌≡◌, ◌∙◌, ℕ, Bool, true, false, true≢false, List, [], ◌∷◌, ◌++◌, Option, Some, None, cond, refl, ap, sym}
 use Rattle.std.specs.Map.{lookup, remove_entry, set_value}
+use Rattle.std.specs.Str.{bytes_eq}
+use Rattle.std.proofs.lemmas.Slice.Eq.{bytes_eq-Decides}
+use Rattle.store_books.specs.Books.{Filed, object_among}
 
 module _ {K X : Type 0} where
   removed_by : (b : Bool) (p : K → Bool) (e : K × X) (es less : List (K × X)) → (b ≡ true → p e.0 ≡ false) → lookup p less ≡ lookup p es → lookup p (cond b es (e ∷ less)) ≡ lookup p (e ∷ es)
@@ -48,3 +51,24 @@ lookup_front p (e ∷ es) more v found = front_by (p e.0) e.1 v (lookup p es) (l
 pub lookup_last : {K X : Type 0} (p : K → Bool) (es : List (K × X)) (k : K) (v : X) → p k ≡ true → lookup p es ≡ None → lookup p (es ++ (k, v) ∷ []) ≡ Some v
 lookup_last p [] k v is none = ap (λ (c : Bool). cond c (Some v) None) is
 lookup_last p (e ∷ es) k v is none = last_by (p e.0) e.1 v (lookup p es) (lookup p (es ++ (k, v) ∷ [])) none (λ there. lookup_last p es k v is there)
+
+-- ---- objects by address
+
+-- another address, and not that of what is looked for
+pub apart_keys : (at other : List ℕ) → bytes_eq other at ≡ false → (k : List ℕ) → bytes_eq other k ≡ true → bytes_eq at k ≡ false
+apart_keys at other apart k is = by (bytes_eq at k) refl
+  where
+    by : (b : Bool) → bytes_eq at k ≡ b → b ≡ false
+    by true same = absurd (true≢false (sym ((bytes_eq-Decides other at).1 ((bytes_eq-Decides other k).0 is ∙ sym ((bytes_eq-Decides at k).0 same))) ∙ apart))
+    by false same = refl
+
+module _ {O : Type 0} (address : O → List ℕ) where
+  -- what is found is found when more objects follow
+  pub found_front : (os more : List (Filed O)) (at : List ℕ) (o : Filed O) → object_among address os at ≡ Some o → object_among address (os ++ more) at ≡ Some o
+  found_front [] more at o found = absurd (cc)
+  found_front (x ∷ os) more at o found = front_by (bytes_eq at (address x.content)) x o (object_among address os at) (object_among address (os ++ more) at) found (λ there. found_front os more at o there)
+
+  -- and what is filed last, where nothing stood under its address
+  pub found_last : (os : List (Filed O)) (o : Filed O) (at : List ℕ) → at ≡ address o.content → object_among address os at ≡ None → object_among address (os ++ o ∷ []) at ≡ Some o
+  found_last [] o at is none = ap (λ (c : Bool). cond c (Some o) None) ((bytes_eq-Decides at (address o.content)).1 is)
+  found_last (x ∷ os) o at is none = last_by (bytes_eq at (address x.content)) x o (object_among address os at) (object_among address (os ++ o ∷ []) at) none (λ there. found_last os o at is there)
