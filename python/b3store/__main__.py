@@ -1,4 +1,4 @@
-"""`python -m b3store`, also installed as `b3store-client`: uses a server's store from a shell (docs/SERVER.md)."""
+"""`python -m b3store`, also installed as `b3store-client`: uses a server's store from a shell (docs/USE.md)."""
 from .programs import end_at_once
 
 if __name__ == "__main__":
@@ -7,6 +7,8 @@ if __name__ == "__main__":
 import argparse
 import contextlib
 import errno
+import functools
+import itertools
 import os
 import stat
 import sys
@@ -15,12 +17,14 @@ from typing import Any, BinaryIO, Callable, Iterator, List, Optional, Tuple
 from . import __version__
 from .client import Client
 from .console import check_line, error_text, finish, number, one_line, report, size
-from .values import MAX_NUMBER, MAX_UPLOAD_LEN, PART_LEN, Refused, check_address
+from .values import MAX_NUMBER, MAX_UPLOAD_LEN, PART_LEN, Filed, Refused, check_address
 
 MISSING = 1
 MAX_IN_MEMORY = 1 << 26
 """How many bytes of a file whose length isn't known are kept in memory."""
 NUMBER = number(0, MAX_NUMBER)
+Formatter: Any = functools.partial(argparse.RawDescriptionHelpFormatter, width=80)
+"""The layout of a help. To find the width of a terminal, argparse would import much, at each start."""
 EPILOG = """\
 examples:
   b3store-client --socket /run/b3store/socket put FILE
@@ -34,41 +38,37 @@ exit status: 0 done; 1 an object is missing, a file to put can't be read, or the
 
 def put(store: Client, words: Any) -> int:
     """Stores files, and prints a line for each."""
-    tenant = tenant_of(store, words)
-    return worst(put_file(store, tenant, name, words.max_len) for name in words.files)
+    tenant, status = tenant_of(store, words), 0
+    for name in words.files:
+        try:
+            filed = put_file(store, tenant, name, words.max_len)
+        except (Refused, OSError) as fault:
+            status = miss(f"{name or repr(name)}: {error_text(fault)}")
+        else:
+            print(check_line(filed.address, name), flush=True)
+    return status
 
 
-def put_file(store: Client, tenant: int, name: str, max_len: Optional[int]) -> int:
+def put_file(store: Client, tenant: int, name: str, max_len: Optional[int]) -> Filed:
     """Stores one file. One whose length isn't known, such as a pipe, is read to its end first, so that no more is reserved than it has; with a maximum, this is
     reserved, and the file is stored as it is read."""
-    try:
-        if name == "-" and sys.stdin is None:
-            raise OSError(errno.EBADF, "standard input is closed")
-        with contextlib.ExitStack() as ending:
-            file: Any = ending.enter_context(open(0 if name == "-" else name, "rb", buffering=0, closefd=name != "-"))
-            length = None
-            if max_len is None and not stat.S_ISREG(os.fstat(file.fileno()).st_mode):
-                file = ending.enter_context(read_ahead(file))
-                length = file.tell()
-                file.seek(0)
-            filed = store.upload(file, tenant, length, max_len=max_len)
-    except (Refused, OSError) as fault:
-        return miss(f"{name or repr(name)}: {error_text(fault)}")
-    print(check_line(filed.address, name), flush=True)
-    return 0
+    if name == "-" and sys.stdin is None:
+        raise OSError(errno.EBADF, "standard input is closed")
+    with contextlib.ExitStack() as ending:
+        file: Any = ending.enter_context(open(0 if name == "-" else name, "rb", buffering=0, closefd=name != "-"))
+        if max_len is not None or stat.S_ISREG(os.fstat(file.fileno()).st_mode):
+            return store.upload(file, tenant, max_len=max_len)
+        import shutil
+        import tempfile
+
+        copy = ending.enter_context(tempfile.SpooledTemporaryFile(MAX_IN_MEMORY))
+        shutil.copyfileobj(file, copy, PART_LEN)
+        length = copy.tell()
+        copy.seek(0)
+        return store.upload(copy, tenant, length)
 
 
-def read_ahead(file: Any) -> Any:
-    """A file with all bytes of another one, at its end, in memory if they are few."""
-    import shutil
-    import tempfile
-
-    copy = tempfile.SpooledTemporaryFile(MAX_IN_MEMORY)
-    shutil.copyfileobj(file, copy, PART_LEN)
-    return copy
-
-
-def get(store: Client, words: Any) -> int:
+def get(store: Client, words: Any) -> Optional[int]:
     """Writes an object's bytes, or a range of them."""
     tenant, (start, length) = tenant_of(store, words), words.range
     try:
@@ -81,7 +81,7 @@ def get(store: Client, words: Any) -> int:
                 write(piece)
     except Refused as fault:
         return miss(f"{words.address}: {fault}")
-    return 0
+    return None
 
 
 @contextlib.contextmanager
@@ -129,81 +129,68 @@ def replacing(path: str, old: Optional[os.stat_result]) -> Iterator[BinaryIO]:
 
 def has(store: Client, words: Any) -> int:
     """Prints the address and the length of each named object that the tenant holds."""
-    tenant = tenant_of(store, words)
-    return worst(has_one(store, tenant, address) for address in words.addresses)
+    tenant, status = tenant_of(store, words), 0
+    for address in words.addresses:
+        length = store.has(tenant, address)
+        if length is None:
+            status = MISSING
+        else:
+            print(address, length)
+    return status
 
 
-def has_one(store: Client, tenant: int, address: str) -> int:
-    """Prints one of them."""
-    length = store.has(tenant, address)
-    if length is None:
-        return MISSING
-    print(address, length)
-    return 0
-
-
-def ls(store: Client, words: Any) -> int:
+def ls(store: Client, words: Any) -> None:
     """Prints the address and the length of each object that the tenant holds."""
     for row in store.list(tenant_of(store, words)).items():
         print(*row)
-    return 0
 
 
 def rm(store: Client, words: Any) -> int:
     """Stops holding objects for the tenant."""
-    tenant = tenant_of(store, words)
-    return worst(rm_one(store, tenant, address) for address in words.addresses)
+    tenant, status = tenant_of(store, words), 0
+    for address in words.addresses:
+        try:
+            store.forget(tenant, address)
+        except Refused as fault:
+            status = miss(f"{address}: {fault}")
+    return status
 
 
-def rm_one(store: Client, tenant: int, address: str) -> int:
-    """Stops holding one of them."""
-    try:
-        store.forget(tenant, address)
-        return 0
-    except Refused as fault:
-        return miss(f"{address}: {fault}")
-
-
-def open_tenant(store: Client, words: Any) -> int:
+def open_tenant(store: Client, words: Any) -> None:
     """Opens a tenant, and prints its number."""
     print(store.tenant(words.limit))
-    return 0
 
 
-def set_limit(store: Client, words: Any) -> int:
+def set_limit(store: Client, words: Any) -> None:
     """Changes the tenant's limit."""
     store.limit(tenant_of(store, words), words.limit)
-    return 0
 
 
-def show_usage(store: Client, words: Any) -> int:
+def show_usage(store: Client, words: Any) -> None:
     """Prints what the tenant uses and reserves, and its limit."""
-    print(*(f"{name} {value}" for name, value in store.usage(tenant_of(store, words))._asdict().items()))
-    return 0
+    print(named(store.usage(tenant_of(store, words))))
 
 
-def show_stat(store: Client, _: Any) -> int:
+def show_stat(store: Client, _: Any) -> None:
     """Prints what the store contains."""
-    print(*(f"{name} {value}" for name, value in store.stat()._asdict().items()))
-    return 0
+    print(named(store.stat()))
 
 
-def show_tenants(store: Client, _: Any) -> int:
+def show_tenants(store: Client, _: Any) -> None:
     """Prints a line for each tenant."""
     for number, usage in store.tenants().items():
-        print(f"tenant {number}", *(f"{name} {value}" for name, value in usage._asdict().items()))
-    return 0
+        print(f"tenant {number}", named(usage))
 
 
-def show_journal(store: Client, words: Any) -> int:
+def named(values: Any) -> str:
+    """The values of a tuple, each after its name."""
+    return " ".join(f"{name} {value}" for name, value in values._asdict().items())
+
+
+def show_journal(store: Client, words: Any) -> None:
     """Prints entries of the journal."""
-    left = words.count
-    for entry in store.journal(words.start):
-        if left == 0:
-            break
-        left -= 1
+    for entry in itertools.islice(store.journal(words.start), min(words.count, sys.maxsize)):
         print(one_line(entry))
-    return 0
 
 
 def tenant_of(store: Client, words: Any) -> int:
@@ -214,11 +201,6 @@ def tenant_of(store: Client, words: Any) -> int:
     tenants = store.tenants()
     # another client may open one at the same time: both use the first
     return min(tenants) if tenants else min([store.tenant(), *store.tenants()])
-
-
-def worst(statuses: Iterator[int]) -> int:
-    """The greatest of some exit statuses, after everything was tried."""
-    return max(statuses, default=0)
 
 
 def miss(text: str) -> int:
@@ -243,17 +225,6 @@ def range_argument(text: str) -> Tuple[int, int]:
     return NUMBER(start or "0"), NUMBER(length or str(MAX_UPLOAD_LEN))
 
 
-class Formatter(argparse.RawDescriptionHelpFormatter):
-    """The layout of a help. It is given its width: to find that, argparse would import much, at each start."""
-
-    def __init__(self, prog: str) -> None:
-        try:
-            width = os.get_terminal_size().columns
-        except OSError:
-            width = 80
-        super().__init__(prog, width=width - 2)
-
-
 def add_common(parser: argparse.ArgumentParser, has_tenant: bool) -> None:
     """Adds the options that commands have before or after the command's name."""
     parser.add_argument("--socket", default=argparse.SUPPRESS, metavar="PATH", help="connect to this Unix-domain socket (default: B3STORE_SOCKET)")
@@ -264,7 +235,7 @@ def add_common(parser: argparse.ArgumentParser, has_tenant: bool) -> None:
         )
 
 
-def add_command(commands: Any, work: Callable[[Client, Any], int], name: str, purpose: str, has_tenant: bool = True) -> Callable[..., Any]:
+def add_command(commands: Any, work: Callable[[Client, Any], Optional[int]], name: str, purpose: str, has_tenant: bool = True) -> Callable[..., Any]:
     """Adds a command, and returns a function that adds an argument to it."""
     parser = commands.add_parser(name, help=purpose, description=purpose[0].upper() + purpose[1:] + ".", formatter_class=Formatter)
     parser.set_defaults(work=work, has_tenant=has_tenant)
@@ -305,24 +276,19 @@ def make_parser() -> argparse.ArgumentParser:
     return parser
 
 
-def connect(parser: argparse.ArgumentParser, words: Any) -> Client:
-    """A client of the server that the options name."""
-    path = getattr(words, "socket", os.environ.get("B3STORE_SOCKET"))
-    # an empty one is the value of an unset variable
-    if not path:
-        parser.error("no server is named: use --socket PATH, or set B3STORE_SOCKET")
-    return Client(path)
-
-
 def run(arguments: Optional[List[str]] = None) -> int:
     """Runs the program, and lets exceptions pass."""
     parser = make_parser()
     words = parser.parse_args(arguments)
     if "tenant" in words and not words.has_tenant:
         parser.error(f"{words.command} takes no --tenant")
-    with connect(parser, words) as store:
+    path = getattr(words, "socket", os.environ.get("B3STORE_SOCKET"))
+    # an empty one is the value of an unset variable
+    if not path:
+        parser.error("no server is named: use --socket PATH, or set B3STORE_SOCKET")
+    with Client(path) as store:
         try:
-            return int(words.work(store, words))
+            return int(words.work(store, words) or 0)
         except Refused as fault:
             return miss(str(fault))
 

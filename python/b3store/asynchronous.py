@@ -5,7 +5,7 @@ import functools
 from types import TracebackType
 from typing import Any, AsyncIterator, Awaitable, Callable, Optional, Type, TypeVar
 
-from .transfers import Transfers
+from .commands import Commands
 from .values import MAX_SESSIONS, RANGE_LEN, check_number
 
 Value = TypeVar("Value")
@@ -25,8 +25,8 @@ class AsyncStore:
     It has the methods of `Store` that return a value, and `ranges`; `run` runs any other. Each raises the same errors. If a coroutine is cancelled, its command
     still runs to its end, unless it waits for a thread: then it isn't run."""
 
-    def __init__(self, store: Transfers, threads: int = 4) -> None:
-        if not isinstance(store, Transfers):
+    def __init__(self, store: Commands, threads: int = 4) -> None:
+        if not isinstance(store, Commands):
             raise TypeError(f"a store must be a Store or a Client, not {type(store).__name__}")
         self.store, self._is_closed = store, False
         self._threads = concurrent.futures.ThreadPoolExecutor(check_number("threads", threads, 1, MAX_SESSIONS), "b3store")
@@ -52,7 +52,7 @@ class AsyncStore:
 
     def __getattr__(self, name: str) -> Callable[..., Awaitable[Any]]:
         """A coroutine function for a method of the store."""
-        if name.startswith("_") or name in OTHERS or not hasattr(Transfers, name):
+        if name.startswith("_") or name in OTHERS or not hasattr(Commands, name):
             raise AttributeError(f"{type(self).__name__!r} object has no attribute {name!r}")
         return functools.partial(self.run, getattr(self.store, name))
 

@@ -10,14 +10,12 @@ import time
 import weakref
 from typing import Any, Callable, List, Optional, Sequence, TypeVar, Union
 
-from .sessions import READ_LEN, Session
-from .transfers import Transfers
+from .sessions import BUSY, READ_LEN, Session
+from .commands import Commands
 from .values import MAX_SESSIONS, Ended, Refused, check_number
 
 Place = Union[str, bytes, "os.PathLike[str]"]
 Value = TypeVar("Value")
-
-INTERRUPTED = Ended("a command was interrupted")
 
 ASK_FOR_PIPES = b"pipes\n"
 """The line that asks a server for the two pipes of a session, and the line that they come with."""
@@ -28,9 +26,9 @@ SECONDS_BETWEEN_LOOKS = 0.25
 class PipeSession(Session):
     """A session whose pipes the server has passed. Lines and answers go through them; the socket shows whether the server lives."""
 
-    def __init__(self, connection: socket.socket, pipes: List[int], ended: Callable[..., Ended]) -> None:
-        super().__init__(open(pipes[0], "wb", 0), open(pipes[1], "rb", READ_LEN), ended)
-        self._socket, self._next_look = Session(connection, connection.makefile("rb"), ended), 0.0
+    def __init__(self, connection: socket.socket, pipes: List[int], end: str) -> None:
+        super().__init__(open(pipes[0], "wb", 0), open(pipes[1], "rb", READ_LEN), end)
+        self._socket, self._next_look = Session(connection, connection.makefile("rb"), end), 0.0
 
     def is_at_rest(self) -> bool:
         """Whether the other side has neither closed an end nor sent anything. No answer may be due."""
@@ -42,7 +40,7 @@ class PipeSession(Session):
         if now >= self._next_look:
             self._next_look = now + SECONDS_BETWEEN_LOOKS
             if not self._socket.is_at_rest():
-                raise self._ended()
+                raise Ended(self._end)
         super().write(*pieces)
 
     def close(self) -> None:
@@ -56,13 +54,13 @@ class PipeSession(Session):
         self._socket.leave(nowhere)
 
 
-class Client(Transfers):
+class Client(Commands):
     """A store that a server shares with many processes.
 
         with Client("/run/b3store/socket") as store:
             filed = store.upload(b"abc", tenant)
 
-    `tenant` is the number of a tenant that was opened once (docs/LIBRARY.md has an example): one can't be closed, and a store has at most 65,536.
+    `tenant` is the number of a tenant that was opened once (docs/USE.md has an example): one can't be closed, and a store has at most 65,536.
 
     Each connection is one session. A client opens `sessions` of them, at most as many as the server has; threads that share the client wait for a free
     one. The server passes it the sessions' pipes, so that it moves no bytes itself; where it can't, as through `ssh`, they go through the socket. When a
@@ -72,6 +70,7 @@ class Client(Transfers):
         """Connects to the socket at a path, and waits for a turn. Raises OSError if there is no server, and Ended if it has no turn for this client."""
         count = check_number("sessions", sessions, 1, MAX_SESSIONS)
         self._path = os.fspath(path)
+        self._end = f"{os.fsdecode(self._path)} has closed the connection"
         self._sockets: List[socket.socket] = []
         self._passes_pipes = True
         self._all: List[Session] = []
@@ -84,7 +83,7 @@ class Client(Transfers):
             for _ in range(count):
                 self._all.append(self._open_session())
         except BaseException:
-            self._end(self._all)
+            self._close_all(self._all)
             raise
         self._give_back(self._all)
         opened.add(self)
@@ -101,9 +100,9 @@ class Client(Transfers):
             for connection in self._sockets if self._fault is not None else []:
                 with contextlib.suppress(OSError):
                     connection.shutdown(socket.SHUT_RDWR)
-            self._with_all(self._free.get, self._end)
+            self._with_all(self._free.get, self._close_all)
 
-    def _end(self, sessions: List[Session]) -> None:
+    def _close_all(self, sessions: List[Session]) -> None:
         for session in sessions:
             session.close()
         self._fault = self._fault or Ended("the client was closed")
@@ -117,9 +116,7 @@ class Client(Transfers):
                 connection.close()
                 return self._open_session()
             self._sockets.append(connection)
-            if pipes:
-                return PipeSession(connection, pipes, self._why())
-            return Session(connection, connection.makefile("rb", READ_LEN), self._why())
+            return PipeSession(connection, pipes, self._end) if pipes else Session(connection, connection.makefile("rb", READ_LEN), self._end)
         except BaseException:
             connection.close()
             raise
@@ -132,31 +129,17 @@ class Client(Transfers):
             while not answer.endswith(b"\n"):
                 piece, others, _, _ = connection.recvmsg(len(ASK_FOR_PIPES), room, socket.MSG_CMSG_CLOEXEC)
                 if not piece:
-                    raise self._ended()
+                    raise Ended(self._end)
                 answer += piece
                 for _, _, data in others:
                     pipes.frombytes(data)
         except OSError as fault:
-            raise fault if fault.errno is None else self._ended() from None
+            raise fault if fault.errno is None else Ended(self._end) from None
         if len(pipes) == 2 or not pipes and answer in (ASK_FOR_PIPES, b"bad\n"):
             return list(pipes)
         for end in pipes:
             os.close(end)
-        raise self._ended("the server is busy: each of its sessions has a client" if answer == b"busy\n" else f"the server answers {answer[:60]!r}")
-
-    def _ended(self, reason: str = "") -> Ended:
-        """Why the sessions can't be used any more."""
-        return Ended(reason or f"{os.fsdecode(self._path)} has closed the connection")
-
-    def _why(self) -> Callable[..., Ended]:
-        """`_ended`, for a session, which it doesn't let keep the store: one that is dropped closes its sessions at once."""
-        method = weakref.WeakMethod(self._ended)
-
-        def ended(*words: Any) -> Ended:
-            call = method()
-            return Ended("the store was closed") if call is None else call(*words)
-
-        return ended
+        raise Ended(BUSY if answer == b"busy\n" else f"the server answers {answer[:60]!r}")
 
     def _with_all(self, get: Callable[[], Session], work: Callable[[List[Session]], Value]) -> Value:
         """What a function returns for the sessions that `get` takes: all of them, or those until it raises queue.Empty. They are given back in one step."""
@@ -194,38 +177,37 @@ class Client(Transfers):
         if os.getpid() != self._process_id:
             raise Ended("the connection belongs to the process that opened it: after a fork, open another one")
         taken: List[Session] = []
-        is_noted = False
         try:
             self._take(taken, self._free.get)
             if self._fault is not None:
                 raise Ended(*self._fault.args)
-            found = work(taken[0])
-            is_noted = True
-            return found
-        except BaseException as fault:
-            if taken:
-                self._note(fault)
-                is_noted = True
-            raise
+            return self._work(taken[0], work)
         finally:
             if taken:
-                # another interrupt may come before the first one is noted
-                if not is_noted and self._fault is None:
-                    self._fault = INTERRUPTED
+                self._fault = self._fault or taken[0].fault
                 self._free.put(taken[0])
 
-    def _note(self, fault: BaseException) -> None:
-        """Notes what interrupted a command: after anything but a refusal no session is used again. Raises Ended in place of what a wrong answer raised."""
-        if isinstance(fault, Refused):
-            return
-        # what is raised isn't what is kept: the frames of its traceback would keep the store
-        if isinstance(fault, Ended):
-            self._fault = Ended(*fault.args)
-        elif isinstance(fault, (ValueError, TypeError, IndexError)):
-            self._fault = self._ended(f"the store's answer makes no sense: {fault}")
-            raise Ended(*self._fault.args) from None
-        else:
-            self._fault = Ended(f"a command was interrupted by {type(fault).__name__}")
+    @staticmethod
+    def _work(session: Session, work: Callable[[Session], Value]) -> Value:
+        """What a function returns for a session, which is of no use after anything but a value or a refusal. Raises Ended for a wrong answer."""
+        # what is raised isn't what is kept: the frames of its traceback would keep the client
+        session.fault = Ended("a command was interrupted")
+        try:
+            found = work(session)
+        except Refused:
+            session.fault = None
+            raise
+        except Ended as fault:
+            session.fault = Ended(*fault.args)
+            raise
+        except (ValueError, TypeError, IndexError) as fault:
+            session.fault = Ended(f"the store's answer makes no sense: {fault}")
+            raise Ended(*session.fault.args) from None
+        except BaseException as fault:
+            session.fault = Ended(f"a command was interrupted by {type(fault).__name__}")
+            raise
+        session.fault = None
+        return found
 
 
 def connect(path: Union[str, bytes]) -> socket.socket:

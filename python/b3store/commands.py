@@ -1,18 +1,23 @@
-"""The commands of a store, as lines: of a server (client.py), or of the library (store.py)."""
+"""The commands of a store, as lines, of a server (client.py) or of the library (store.py); and uploads of any length."""
+import io
+import itertools
 import sys
 from types import TracebackType
-from typing import Callable, Dict, Iterator, List, Optional, Tuple, Type, TypeVar
+from typing import Any, BinaryIO, Callable, Dict, Iterator, List, Optional, Sequence, Type, TypeVar, Union
 
-from .sessions import Kinds, Session
+from .redo import run_lines
+from .sessions import Session
+from .transfers import PARTS_AT_ONCE, StoredObject, Upload, is_file, length_of, parts_of
 from .values import (
-    MAX_REDONE, MAX_UPLOAD_LEN, RANGE_LEN, Buffer, Counts, Filed, Held, ObjectPage, OpenUpload, Redone, Refused, Totals, Usage, check_address, check_bytes,
-    check_number, check_room, half_of_memory, parse_asked, parse_count, parse_digits, parse_held, parse_labelled, parse_length, parse_number, parse_object,
-    parse_open_upload, parse_usage,
+    CHUNK_LEN, FILED, MAX_NUMBER, MAX_REDONE, MAX_UPLOAD_LEN, PART_LEN, RANGE_LEN, Buffer, Counts, Filed, Held, ObjectPage, ObjectRow, OpenUpload, Redone,
+    Refused, Totals, Usage, check_address, check_bytes, check_number, check_room, half_of_memory, parse,
 )
 
-Key = TypeVar("Key")
 Value = TypeVar("Value")
 Self = TypeVar("Self", bound="Commands")
+
+HELD, ROW, TOTALS = "held N (?:all|missing N)", "A L", "objects N bytes N uploads N held N parts N"
+"""Forms of answers (`values.parse`)."""
 
 
 class Commands:
@@ -37,11 +42,11 @@ class Commands:
     def tenant(self, limit: Optional[int] = None) -> int:
         """Opens a tenant, which may hold up to `limit` bytes, by default half of this machine's memory, and returns its number. It can't be closed, and a store
         has at most 65,536: a program that runs again uses the same one. Refusals: S2, S3."""
-        return self._ask(parse_number, "tenant", f"tenant {check_number('limit', half_of_memory() if limit is None else limit)}")
+        return int(self._ask("tenant N", f"tenant {check_number('limit', half_of_memory() if limit is None else limit)}")[0])
 
     def limit(self, tenant: int, limit: int) -> None:
         """Changes a tenant's limit. Refusals: S1, S3, S4."""
-        self._do(f"limit {check_number('tenant', tenant)} {check_number('limit', limit)}")
+        self._ask("ok", f"limit {check_number('tenant', tenant)} {check_number('limit', limit)}")
 
     def begin(self, tenant: int, length: int) -> int:
         """Begins an upload of `length` bytes, and returns its number. Refusals: S1, S5, S6."""
@@ -53,13 +58,12 @@ class Commands:
 
     def fix(self, upload: int, length: int) -> None:
         """Fixes an upload's end. Refusals: S7, S5, S15."""
-        self._do(f"fix {check_number('upload', upload)} {check_number('length', length)}")
+        self._ask("ok", f"fix {check_number('upload', upload)} {check_number('length', length)}")
 
     def put(self, upload: int, offset: int, part: Buffer) -> Held:
         """Adds a part to an upload. Refusals: S7, F2 to F6, S9, S15."""
         view = check_bytes(part)
-        line = f"putb {check_number('upload', upload)} {check_number('offset', offset)} {view.nbytes}"
-        return self._ask(parse_held, "held", line, view)
+        return Held(*self._ask(HELD, f"putb {check_number('upload', upload)} {check_number('offset', offset)} {view.nbytes}", view))
 
     def seal(self, upload: int) -> Filed:
         """Files an upload as an object. Refusals: S7, S16, S10, S6."""
@@ -72,23 +76,22 @@ class Commands:
     def _seal(self, upload: int, address: Optional[str] = None, length: Optional[int] = None) -> Filed:
         """Files an upload as an object, which must have this address and this length, if they are known."""
         line = f"seal {check_number('upload', upload)}" if address is None else f"sealas {check_number('upload', upload)} {address}"
-        return self._ask(lambda words: parse_asked(words, address, length), ("new", "known"), line)
+        return self._talk(lambda _, *values: filed_of(values, address, length), FILED, line)
 
     def abort(self, upload: int) -> None:
         """Ends an upload without an object. Refusals: S7."""
-        self._do(f"abort {check_number('upload', upload)}")
+        self._ask("ok", f"abort {check_number('upload', upload)}")
 
     def file(self, tenant: int, content: Buffer, address: Optional[str] = None) -> Filed:
         """Files content in one turn; of long content, `upload` lets others have turns. If an address is given, content with another address is refused.
         Refusals: those of `begin`, `put` and `seal_as`; after a refusal the upload is aborted."""
-        view, address = check_bytes(content), None if address is None else check_address(address)
-        tenant = check_number("tenant", tenant)
-        line = f"file {tenant} {view.nbytes}" if address is None else f"fileas {tenant} {address} {view.nbytes}"
-        return self._talk(lambda session, words: parse_asked(words, address, view.nbytes), ("new", "known"), line, view)
+        view, tenant = check_bytes(content), check_number("tenant", tenant)
+        line = f"file {tenant} {view.nbytes}" if address is None else f"fileas {tenant} {check_address(address)} {view.nbytes}"
+        return self._talk(lambda _, *values: filed_of(values, address, view.nbytes), FILED, line, view)
 
     def forget(self, tenant: int, address: str) -> None:
         """Stops holding an object for a tenant. The object is removed when no tenant holds it any more. Refusals: S1, S12."""
-        self._do(f"forget {check_number('tenant', tenant)} {check_address(address)}")
+        self._ask("ok", f"forget {check_number('tenant', tenant)} {check_address(address)}")
 
     def has(self, tenant: int, address: str) -> Optional[int]:
         """Returns the length of an object that a tenant holds, or None. Refusals: S1."""
@@ -101,24 +104,25 @@ class Commands:
 
     def size(self, tenant: int, address: str) -> int:
         """Returns the length of an object that a tenant holds. Refusals: S1, S12."""
-        return self._ask(parse_length, "has", f"has {check_number('tenant', tenant)} {check_address(address)}")
+        return int(self._ask("has L", f"has {check_number('tenant', tenant)} {check_address(address)}")[0])
 
     def fetch(self, tenant: int, address: str, offset: int = 0, length: int = MAX_UPLOAD_LEN) -> bytes:
         """Returns up to `length` bytes of an object, starting at `offset`; by default all. Refusals: S1, S12."""
         line, max_len = fetch_line(tenant, address, offset, length), check_number("length", length)
-        return self._talk(lambda session, words: session.content(words, max_len), "bytes", line)
+        return self._talk(lambda session, count: session.content(count, max_len), "bytes N", line)
 
     def fetch_into(self, tenant: int, address: str, room: Buffer, offset: int = 0) -> int:
         """Reads an object's bytes, starting at `offset`, into a writable buffer, and returns how many it read. These are fewer than the buffer has room for
         only at the object's end. Refusals: S1, S12."""
         view = check_room(room)
-        line = fetch_line(tenant, address, offset, view.nbytes)
-        return self._talk(lambda session, words: session.content_into(words, view, 0), "bytes", line)
+        return self._read_into(tenant, address, view, offset, 0)
 
     def _fill(self, tenant: int, address: str, view: memoryview, offset: int) -> None:
         """Reads bytes that the object is known to have into a whole buffer. Refusals: S1, S12."""
-        line = fetch_line(tenant, address, offset, view.nbytes)
-        self._talk(lambda session, words: session.content_into(words, view, view.nbytes), "bytes", line)
+        self._read_into(tenant, address, view, offset, view.nbytes)
+
+    def _read_into(self, tenant: int, address: str, view: memoryview, offset: int, min_len: int) -> int:
+        return self._talk(lambda session, count: session.content_into(count, view, min_len), "bytes N", fetch_line(tenant, address, offset, view.nbytes))
 
     def ranges(self, tenant: int, address: str, length: int = RANGE_LEN) -> Iterator[bytes]:
         """Yields an object's bytes in ranges of `length`. Other commands can run between two of them. Refusals: S1, S12."""
@@ -136,11 +140,11 @@ class Commands:
 
     def usage(self, tenant: int) -> Usage:
         """Returns how many bytes a tenant uses and reserves, and its limit. Refusals: S1."""
-        return self._ask(lambda words: Usage(*parse_labelled(words, ["reserved", "limit"])), "used", f"usage {check_number('tenant', tenant)}")
+        return Usage(*self._ask("used N reserved N limit N", f"usage {check_number('tenant', tenant)}"))
 
     def list(self, tenant: int) -> Dict[str, int]:
         """Returns the lengths of the objects that a tenant holds, by address, in the order in which they were filed. Refusals: S1, S14."""
-        return self._table(parse_object, "list", f"list {check_number('tenant', tenant)}")
+        return {address: length for address, length in self._rows(ROW, "list N", f"list {check_number('tenant', tenant)}")}
 
     def objects(self, tenant: int, first: int = 0, count: int = MAX_REDONE) -> ObjectPage:
         """Returns up to `count` of the objects that a tenant holds, in the order in which they were filed: those with a number from `first` on. To list all in
@@ -148,32 +152,38 @@ class Commands:
         count = check_number("count", count)
         line = f"objects {check_number('tenant', tenant)} {check_number('first', first)} {count}"
 
-        def read(session: Session, words: List[str]) -> ObjectPage:
-            following, rows = words
-            return ObjectPage(parse_digits(following), [parse_object(*session.line()) for _ in range(parse_count([rows], count))])
+        def read(session: Session, following: int, rows: int) -> ObjectPage:
+            check_number("rows", rows, 0, count)
+            return ObjectPage(following, [ObjectRow(*parse(ROW, session.line())) for _ in range(rows)])
 
-        return self._talk(read, "objects", line)
+        return self._talk(read, "objects N N", line)
 
     def uploads(self, tenant: int) -> List[OpenUpload]:
         """Returns a tenant's open uploads, in the order of their numbers. Refusals: S1, S14."""
-        return self._rows(parse_open_upload, "uploads", f"uploads {check_number('tenant', tenant)}")
+        rows = self._rows("N N (?:N|-) N", "uploads N", f"uploads {check_number('tenant', tenant)}")
+        return [OpenUpload(*row) for row in rows]
 
     def tenants(self) -> Dict[int, Usage]:
         """Returns how many bytes each tenant uses and reserves, and its limit, by number."""
-        return self._table(lambda tenant, *row: (parse_digits(tenant), parse_usage([*row])), "tenants", "tenants")
+        return {number: Usage(*usage) for number, *usage in self._rows("N N N N", "tenants N", "tenants")}
 
     def counts(self) -> Counts:
         """Returns how many entries the journal has and how many tenants there are, and what the store contains, at one moment."""
-        return self._ask(lambda words: Counts(*parse_labelled(words, ["tenants", *Totals._fields])), "entries", "counts")
+        return Counts(*self._ask(f"entries N tenants N {TOTALS}", "counts"))
 
     def stat(self) -> Totals:
         """Returns what the store contains."""
-        return self._ask(lambda words: Totals(*parse_labelled(words, ["bytes", "uploads", "held", "parts"])), "objects", "stat")
+        return Totals(*self._ask(TOTALS, "stat"))
 
     def entries(self, start: int = 0, count: Optional[int] = None) -> List[str]:
         """Returns the journal's entries from number `start` on, up to `count` of them, as lines without a newline. Refusals: S14."""
         line = f"entries {check_number('start', start)}" + ("" if count is None else f" {check_number('count', count)}")
-        return self._lines("journal", line, count)
+
+        def read(session: Session, rows: int) -> List[str]:
+            check_number("rows", rows, 0, MAX_NUMBER if count is None else count)
+            return [session.line() for _ in range(rows)]
+
+        return self._talk(read, "journal N", line)
 
     def journal(self, start: int = 0, page_len: int = 1000) -> Iterator[str]:
         """Yields the journal's entries from number `start` on, which it reads in pages of `page_len`, until there are no more. Refusals: S14."""
@@ -190,17 +200,91 @@ class Commands:
     def redo(self, first: int, count: int = MAX_REDONE) -> Redone:
         """Returns lines that redo on another store what up to `count` entries of the journal, from number `first` on, have done, and the number of the entry
         after these. What tenants still hold comes with its bytes: up to 4 MiB, or one object. `run_lines` runs them. Refusals: S14."""
-        line = redo_line(first, count)
-        return self._talk(lambda session, words: Redone(parse_digits(words[0]), session.content(words[1:], sys.maxsize)), "redo", line)
+        return self._redo(lambda session, length: session.content(length, sys.maxsize), first, count)
 
     def _redo_to(self, write: Callable[[memoryview], None], first: int, count: int) -> int:
         """The same, but passes the lines in pieces to a function, which must raise nothing. Returns the number of the entry after those."""
 
-        def read(session: Session, words: List[str]) -> int:
-            session.content_to(words[1:], write)
-            return parse_digits(words[0])
+        return self._redo(lambda session, length: session.content_to(length, write), first, count).next
 
-        return self._talk(read, "redo", redo_line(first, count))
+    def _redo(self, read: Callable[[Session, int], Any], first: int, count: int) -> Redone:
+        line = f"redo {check_number('first', first)} {check_number('count', count)}"
+        return self._talk(lambda session, following, length: Redone(following, read(session, length)), "redo N N", line)
+
+    def start_upload(self, tenant: int, length: Optional[int] = None, max_len: Optional[int] = None) -> Upload:
+        """Begins an upload, to be used in a `with` statement. If the length isn't known, `max_len` bytes are reserved until it is sealed, by default all
+        that the tenant has left, up to 1 TiB. Refusals: S1, S5, S6."""
+        if length is not None and max_len is not None:
+            raise ValueError("an upload has a length or a maximum length, not both")
+        upload = Upload(self, None if length is None else check_number("length", length))
+        upload._begin(tenant, max_len)
+        return upload
+
+    def upload(
+        self, content: Union[Buffer, BinaryIO], tenant: int, length: Optional[int] = None, *, address: Optional[str] = None, max_len: Optional[int] = None
+    ) -> Filed:
+        """Files content of any length: bytes, or a file object that is open for reading bytes, from its position on.
+
+        A file need not be seekable. Without a `length` it is read to its end, and a regular one to the end that it had at first; with one, `length` bytes are
+        read, and ValueError is raised if it ends earlier. If the length isn't known, `max_len` bytes are reserved:
+        by default as many as the file seems to have, or all that the tenant has left, up to 1 TiB. With an `address`, the content is filed only if that
+        is its address. If anything is raised, the upload is aborted.
+
+        Refusals: S1, S5, S6; F4 for a file that is longer than what is reserved; S11."""
+        if address is not None:
+            check_address(address)
+        if length is not None:
+            length = check_number("length", length, 0, MAX_UPLOAD_LEN)
+        if max_len is not None:
+            max_len = check_number("max_len", max_len)
+        if is_file(content):
+            return self._upload_file(content, tenant, length, address, max_len)
+        view = check_bytes(content)
+        if length is not None and length != view.nbytes:
+            raise ValueError(f"the content has {view.nbytes} bytes, and not {length}")
+        if view.nbytes <= PART_LEN:
+            return self.file(tenant, view, address)
+        parts = (view[at : at + PART_LEN] for at in range(0, view.nbytes, PART_LEN))
+        return self._upload_parts(Upload(self, view.nbytes), tenant, None, parts, address)
+
+    def open(self, tenant: int, address: str, buffering: int = RANGE_LEN) -> Union[io.BufferedReader, StoredObject]:
+        """Opens an object as a file object for reading bytes, which can seek. `buffering` is the length of its buffer, 0 for none. Refusals: S1, S12."""
+        check_number("buffering", buffering, 0, sys.maxsize)
+        raw = StoredObject(self, tenant, check_address(address))
+        return io.BufferedReader(raw, buffering) if buffering else raw
+
+    def run_lines(self, lines: Union[Buffer, BinaryIO]) -> int:
+        """Runs lines that another store has returned for `redo`: bytes, or a file of them, from its start on, that can seek. This store must have run the lines
+        of all entries before. Returns how many bytes the lines have, without an incomplete one at the end, which isn't run. Raises LogError for the
+        first line that is wrong or refused; up to 39 after it may have been run. A `forget` that is refused with S12 has no effect: `redo` may return such
+        ones."""
+        return run_lines(self, lines)
+
+    def _upload_file(self, file: Any, tenant: int, length: Optional[int], address: Optional[str], max_len: Optional[int]) -> Filed:
+        limit = length_of(file) if length is None else length
+        parts = parts_of(file, limit, length)
+        first = list(itertools.islice(parts, PARTS_AT_ONCE))
+        count = sum(part.nbytes for part in first)
+        if max_len is None and (count < PARTS_AT_ONCE * PART_LEN or count == length):
+            if count <= PART_LEN:
+                return self.file(tenant, first[0] if first else b"", address)
+            return self._upload_parts(Upload(self, count), tenant, None, iter(first), address)
+        if max_len is None and limit is not None:
+            max_len = -(-limit // CHUNK_LEN) * CHUNK_LEN
+        return self._upload_parts(Upload(self, length), tenant, max_len, itertools.chain(first, parts), address, count)
+
+    def _upload_parts(
+        self, upload: Upload, tenant: int, max_len: Optional[int], parts: Iterator[memoryview], address: Optional[str], min_len: int = 0
+    ) -> Filed:
+        """Files the content of some parts, by an upload that has not begun."""
+        with upload:
+            # here an interrupt can't come between the begin and the block that ends the upload
+            upload._begin(tenant, max_len, min_len)
+            while True:
+                batch = list(itertools.islice(parts, PARTS_AT_ONCE))
+                if not batch:
+                    return upload.seal(address)
+                upload._send(batch)
 
     def _put_all(self, upload: int, offset: int, parts: List[memoryview]) -> None:
         """Puts a few parts one after another in one turn. All are sent before the first answer is read: the answers fit any pipe."""
@@ -211,7 +295,7 @@ class Commands:
 
         def put(session: Session) -> List[Optional[Refused]]:
             session.write(*lines)
-            return session.refusals("held", len(parts))
+            return session.refusals(HELD, len(parts))
 
         for refusal in self._in_turn(put):
             if refusal is not None:
@@ -219,44 +303,19 @@ class Commands:
 
     def _begin(self, word: str, tenant: int, length: int) -> int:
         """Begins an upload, and returns its number."""
-        return self._ask(parse_number, "upload", f"{word} {tenant} {length}")
+        return int(self._ask("upload N", f"{word} {tenant} {length}")[0])
 
-    def _do(self, line: str) -> None:
-        """Sends a command that is answered `ok`."""
-        self._talk(lambda _, words: None, "ok", line)
+    def _ask(self, form: str, line: str, content: Buffer = b"") -> List[Any]:
+        """Sends a command, and returns the values in its answer."""
+        return self._in_turn(lambda session: session.ask(form, line, content))
 
-    def _ask(self, read: Callable[[List[str]], Value], kinds: Kinds, line: str, content: Buffer = b"") -> Value:
-        """Sends a command, and returns what `read` makes of the words of its answer."""
-        return self._talk(lambda _, words: read(words), kinds, line, content)
+    def _rows(self, row: str, form: str, line: str) -> List[List[Any]]:
+        """The values in each of the lines that follow an answer."""
+        return self._talk(lambda session, count: [parse(row, session.line()) for _ in range(count)], form, line)
 
-    def _rows(self, read: Callable[..., Value], kind: str, line: str) -> List[Value]:
-        """The same for each line of an answer that has several."""
-        return self._talk(lambda session, words: [read(*session.line()) for _ in range(parse_number(words))], kind, line)
-
-    def _table(self, read: Callable[..., Tuple[Key, Value]], kind: str, line: str) -> Dict[Key, Value]:
-        """The same for lines that each have another key."""
-
-        def read_all(session: Session, words: List[str]) -> Dict[Key, Value]:
-            count = parse_number(words)
-            table = dict(read(*session.line()) for _ in range(count))
-            if len(table) < count:
-                raise ValueError("two lines have the same key")
-            return table
-
-        return self._talk(read_all, kind, line)
-
-    def _lines(self, kind: str, line: str, most: Optional[int] = None) -> List[str]:
-        """The lines of an answer that has several, up to so many."""
-        return self._talk(lambda session, words: [session.text() for _ in range(parse_count(words, most))], kind, line)
-
-    def _talk(self, read: Callable[[Session, List[str]], Value], kinds: Kinds, line: str, content: Buffer = b"") -> Value:
-        """The same for a session and the words of an answer."""
-        return self._in_turn(lambda session: read(session, session.ask(kinds, line, content)))
-
-
-def redo_line(first: int, count: int) -> str:
-    """The command that asks for lines that redo entries."""
-    return f"redo {check_number('first', first)} {check_number('count', count)}"
+    def _talk(self, read: Callable[..., Value], form: str, line: str, content: Buffer = b"") -> Value:
+        """Sends a command, and returns what a function makes of the session and the values in the answer."""
+        return self._in_turn(lambda session: read(session, *session.ask(form, line, content)))
 
 
 def fetch_line(tenant: int, address: str, offset: int, length: int) -> str:
@@ -264,3 +323,9 @@ def fetch_line(tenant: int, address: str, offset: int, length: int) -> str:
     return f"fetchb {check_number('tenant', tenant)} {check_address(address)} {check_number('offset', offset)} {check_number('length', length)}"
 
 
+def filed_of(values: Sequence[Any], address: Optional[str], length: Optional[int]) -> Filed:
+    """The object of an answer, which must have this address and this length, if they are known. Raises ValueError."""
+    filed = Filed(values[0] == "new", *values[1:])
+    if address is not None and filed.address != address.lower() or length is not None and filed.length != length:
+        raise ValueError(f"{filed.address} of {filed.length} bytes was filed, not what was asked for")
+    return filed

@@ -104,7 +104,11 @@ def finish(run: Callable[[], int]) -> int:
 def status_of(run: Callable[[], int]) -> int:
     """The exit status of a program, which an error ends with a message."""
     try:
-        return written(run)
+        try:
+            return run()
+        finally:
+            # also after a help, from which it doesn't return
+            sys.stdout.flush()
     except SystemExit as end:
         if end.code in ENDED:
             drop_output()
@@ -117,17 +121,6 @@ def status_of(run: Callable[[], int]) -> int:
         report("out of memory" if isinstance(fault, MemoryError) else error_text(fault))
     drop_output()
     return FAILED
-
-
-def written(run: Callable[[], int]) -> int:
-    """What a program returns, once all that it has printed is written: also a help, after which it doesn't return."""
-    try:
-        status = run()
-    except SystemExit:
-        sys.stdout.flush()
-        raise
-    sys.stdout.flush()
-    return status
 
 
 def open_standard_files() -> bool:

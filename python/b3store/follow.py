@@ -1,4 +1,4 @@
-"""`python -m b3store.follow FROM TO`: keeps a copy of a server's store, on another server or in a folder (docs/SERVER.md)."""
+"""`python -m b3store.follow FROM TO`: keeps a copy of a server's store, on another server or in a folder (docs/USE.md)."""
 from .programs import end_at_once
 
 if __name__ == "__main__":
@@ -15,9 +15,8 @@ from .console import count_text, fault_text, finish, report
 from .redo_log import RedoLog
 from .values import MAX_REDONE, StoreError
 
-SECONDS_BETWEEN_LOOKS = 0.1
-"""How long nothing is asked for once the copy has everything."""
-SECONDS_BETWEEN_TRIES = 1.0
+SECONDS_BETWEEN_LOOKS, SECONDS_BETWEEN_TRIES = 0.1, 1.0
+"""How long nothing is asked for once the copy has everything, and after a failure."""
 MAX_IN_MEMORY = 1 << 23
 """How many bytes of an answer are kept in memory. More are kept in a temporary file."""
 EPILOG = """\
@@ -36,19 +35,18 @@ class Unlike(StoreError):
 class Journal:
     """An entry of the journal of the store that is copied, by which it is known again."""
 
-    def __init__(self) -> None:
-        self._number, self._entry = 0, [""]
+    _number, _entry = 0, [""]
 
     def check(self, store: Client) -> None:
         """Raises Unlike if the entry that was noted is another now: a server that was started again may have lost what its copy still has."""
-        if self._entry != [""] and store.entries(self._number, 1) != self._entry:
+        if self._entry not in ([""], store.entries(self._number, 1)):
             raise Unlike("the server to copy was started again: its copy is left as it is")
         self.note(store)
 
     def note(self, store: Client) -> None:
-        """Notes the last entry."""
+        """Notes the last entry, if there is one."""
         last = store.counts().entries - 1
-        if last >= 0 and (last != self._number or self._entry == [""]):
+        if last >= 0:
             self._number, self._entry = last, store.entries(last, 1)
 
 

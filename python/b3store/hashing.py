@@ -8,7 +8,7 @@
 ImportError. Hashing more than 4 KiB lets other threads run."""
 import ctypes
 import sys
-from typing import Any, BinaryIO, List, Optional
+from typing import Any, BinaryIO, Optional
 
 from .library import SIZE, U64, address_of, load
 from .transfers import read_full
@@ -16,14 +16,13 @@ from .values import PART_LEN, Buffer, check_bytes, check_number
 
 SMALL_LEN = 1 << 12
 """Up to this many bytes are kept, and hashed by one call that keeps the interpreter's lock."""
-HASH_LEN = 32
-START = 0
-KEY_LEN = 32
+HASH_LEN, KEY_LEN, START = 32, 32, 0
 HASH, KEYED_HASH, DERIVE_KEY = range(3)
 FAULTS = {1: "the output has the wrong length", 2: "the key has the wrong length", 3: "the bytes are past the output's end"}
 
 try:
-    library, small_library = load(("b3_hash", "b3_keyed_hash", "b3_derive_key", "b3_extended", "b3_hasher_init", "b3_hasher_update", "b3_hasher_extended"))
+    WHOLE = tuple(f"b3_{name}_counted" for name in ("hash", "keyed_hash", "derive_key", "extended"))
+    library, small_library = load((*WHOLE, "b3_hasher_init", "b3_hasher_update", "b3_hasher_extended"))
 except OSError as fault:
     raise ImportError(str(fault)) from None
 
@@ -31,45 +30,18 @@ Hasher: Any = ctypes.c_uint64 * 946
 """The memory of a hasher, whose fields are the library's."""
 Output: Any = ctypes.c_char * HASH_LEN
 
-SLICE = [ctypes.c_void_p, ctypes.c_size_t]
-COUNT = ctypes.POINTER(ctypes.c_uint64)
-library.b3_extended.argtypes = [ctypes.c_uint32, *SLICE, *SLICE, ctypes.c_uint64, *SLICE, COUNT]
-library.b3_hasher_init.argtypes = [ctypes.POINTER(Hasher), ctypes.c_uint32, *SLICE, COUNT]
-library.b3_hasher_update.argtypes = [ctypes.POINTER(Hasher), *SLICE, COUNT]
-library.b3_hasher_extended.argtypes = [ctypes.POINTER(Hasher), ctypes.c_uint64, *SLICE, COUNT]
-
-small_hash: Any = small_library.b3_hash
-small_hashes: Any = {KEYED_HASH: small_library.b3_keyed_hash, DERIVE_KEY: small_library.b3_derive_key}
-"""They have no argtypes: their arguments are made ready here, which takes less than half the time."""
+small_hash: Any = small_library.b3_hash_counted
+small_hashes: Any = {KEYED_HASH: small_library.b3_keyed_hash_counted, DERIVE_KEY: small_library.b3_derive_key_counted}
 OUTPUT_SIZE = SIZE(HASH_LEN)
 SMALL_COUNT = ctypes.byref(U64())
 """All calls that keep the interpreter's lock can share it."""
 
 
-class Bytes:
-    """Bytes at an address, for as long as this object exists."""
-
-    def __init__(self, data: Buffer) -> None:
-        self.kept = check_bytes(data)
-        self.length, self.address = self.kept.nbytes, address_of(self.kept)
-
-    def whole(self) -> List[int]:
-        """The address and the length of all of it."""
-        return [self.address, self.length]
-
-
 def call(function: Any, *words: Any) -> None:
     """Calls a function of the library with its own count. Raises ValueError if it reports a fault."""
-    answer = function(*words, U64())
+    answer = function(*words, ctypes.byref(U64()))
     if answer:
         raise ValueError(FAULTS[answer])
-
-
-def output_of(length: int, function: Any, *words: Any) -> bytes:
-    """The bytes that a function writes as its last argument."""
-    out = ctypes.create_string_buffer(max(length, 1))
-    call(function, *words, ctypes.addressof(out), length)
-    return out.raw[:length]
 
 
 class blake3:  # named as hashlib's classes are
@@ -109,35 +81,33 @@ class blake3:  # named as hashlib's classes are
                 self._kept += data
                 return
             check_bytes(data)
-            hasher, word = Hasher(), Bytes(self._word)
-            call(library.b3_hasher_init, hasher, self._mode, *word.whole())
-            call(library.b3_hasher_update, hasher, *Bytes(self._kept).whole())
+            hasher = Hasher()
+            call(library.b3_hasher_init, hasher, self._mode, self._word, SIZE(len(self._word)))
+            call(library.b3_hasher_update, hasher, self._kept, SIZE(len(self._kept)))
             self._hasher, self._kept = hasher, b""
-        given = Bytes(data)
-        call(library.b3_hasher_update, self._hasher, *given.whole())
+        view = check_bytes(data)
+        call(library.b3_hasher_update, self._hasher, ctypes.c_void_p(address_of(view)), SIZE(view.nbytes))
 
     def digest(self, length: int = HASH_LEN, *, position: int = 0) -> bytes:
         """Returns the hash, or `length` bytes of the extended output from a position on. Raises TypeError or ValueError."""
         if self._hasher is None and length is HASH_LEN and position is START:
             out, kept = Output(), self._kept
             if self._mode:
-                self._hash_small(out)
-            elif small_hash(kept, SIZE(len(kept)), out, OUTPUT_SIZE, SMALL_COUNT):
-                raise ValueError(FAULTS[1])
+                fault = small_hashes[self._mode](self._word, SIZE(len(self._word)), kept, SIZE(len(kept)), out, OUTPUT_SIZE, SMALL_COUNT)
+            else:
+                fault = small_hash(kept, SIZE(len(kept)), out, OUTPUT_SIZE, SMALL_COUNT)
+            if fault:
+                raise ValueError(FAULTS[fault])
             digest: bytes = out.raw
             return digest
         length, position = check_number("length", length, 0, sys.maxsize), check_number("position", position)
+        out = ctypes.create_string_buffer(max(length, 1))
         if self._hasher is not None:
-            return output_of(length, library.b3_hasher_extended, self._hasher, position)
-        word, given = Bytes(self._word), Bytes(self._kept)
-        return output_of(length, library.b3_extended, self._mode, *word.whole(), *given.whole(), position)
-
-    def _hash_small(self, out: Any) -> None:
-        """Writes the hash of the bytes that were kept, in a mode with a key or a context."""
-        word, kept = self._word, self._kept
-        fault = small_hashes[self._mode](word, SIZE(len(word)), kept, SIZE(len(kept)), out, OUTPUT_SIZE, SMALL_COUNT)
-        if fault:
-            raise ValueError(FAULTS[fault])
+            call(library.b3_hasher_extended, self._hasher, U64(position), out, SIZE(length))
+        else:
+            word, kept = self._word, self._kept
+            call(library.b3_extended_counted, self._mode, word, SIZE(len(word)), kept, SIZE(len(kept)), U64(position), out, SIZE(length))
+        return out.raw[:length]
 
     def hexdigest(self, length: int = HASH_LEN, *, position: int = 0) -> str:
         """Returns the same as hexadecimal digits."""

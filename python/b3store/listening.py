@@ -2,7 +2,6 @@
 import contextlib
 import errno
 import os
-import re
 import socket
 import stat
 import time
@@ -14,11 +13,10 @@ from .values import StoreError
 FIRST_PASSED = 3
 """The first descriptor that systemd passes."""
 BACKLOG = 1024
-SECONDS_TO_LOCK = 2.0
-"""How long another server may take to replace a socket."""
-SECONDS_TO_NOTIFY = 1.0
-MICROSECONDS_MORE = 60_000_000
-SECONDS_BETWEEN_ASKS = 5.0
+SECONDS_TO_LOCK, SECONDS_TO_NOTIFY = 2.0, 1.0
+"""How long another server may take to replace a socket, and systemd to take a report."""
+MICROSECONDS_MORE, SECONDS_BETWEEN_ASKS = 60_000_000, 5.0
+"""How much more time systemd is asked for, and how often."""
 
 
 class ListenError(StoreError):
@@ -53,10 +51,8 @@ def remove_stale(path: str) -> None:
     with socket.socket(socket.AF_UNIX, socket.SOCK_STREAM) as probe:
         probe.setblocking(False)
         fault = probe.connect_ex(path)
-    if fault in (0, errno.EAGAIN, errno.EINPROGRESS):
-        raise ListenError(f"{path} is in use: another process listens on it")
     if fault != errno.ECONNREFUSED:
-        raise ListenError(f"{path} is a socket that can't be replaced: {os.strerror(fault)}")
+        raise ListenError(f"{path} is in use: another process listens on it")
     os.unlink(path)
 
 
@@ -84,28 +80,21 @@ def inherited() -> List[Listener]:
     """The listening sockets that systemd passes to this process. Programs that it starts don't see them."""
     count, owner = os.environ.pop("LISTEN_FDS", ""), os.environ.pop("LISTEN_PID", "")
     os.environ.pop("LISTEN_FDNAMES", None)
-    if not count or owner != str(os.getpid()):
-        return []
-    if not re.fullmatch("[0-9]{1,4}", count):
-        raise ListenError(f"LISTEN_FDS is {count!r}, not a number")
-    return [passed(descriptor) for descriptor in range(FIRST_PASSED, FIRST_PASSED + int(count))]
+    return [passed(descriptor) for descriptor in range(FIRST_PASSED, FIRST_PASSED + int(count))] if count and owner == str(os.getpid()) else []
 
 
 def passed(descriptor: int) -> Listener:
     """A socket that systemd passes."""
-    try:
+    with contextlib.suppress(OSError):
         os.set_inheritable(descriptor, False)
         listening = socket.socket(fileno=descriptor)
-        is_listening = listening.getsockopt(socket.SOL_SOCKET, socket.SO_ACCEPTCONN)
-    except OSError as error:
-        raise ListenError(f"the passed descriptor {descriptor} is not a socket: {error.strerror}") from None
-    if not is_listening or listening.type != socket.SOCK_STREAM or listening.family != socket.AF_UNIX:
-        raise ListenError(f"the passed descriptor {descriptor} is not a listening Unix-domain socket")
-    return Listener(listening)
+        if (listening.family, listening.type) == (socket.AF_UNIX, socket.SOCK_STREAM) and listening.getsockopt(socket.SOL_SOCKET, socket.SO_ACCEPTCONN):
+            return Listener(listening)
+    raise ListenError(f"the passed descriptor {descriptor} is not a listening Unix-domain socket")
 
 
 def notify(state: str) -> None:
-    """Reports a state to systemd, if it started the server. What it doesn't take within a second is dropped."""
+    """Reports a state to systemd, if it started the server. What it doesn't take in time is dropped."""
     path = os.environ.get("NOTIFY_SOCKET", "")
     if path[:1] not in ("/", "@"):
         return

@@ -1,4 +1,4 @@
-"""Runs the lines that `redo` gives (docs/COMMANDS.md), and moves what a store has to a new one."""
+"""Runs the lines that `redo` gives (docs/PROTOCOL.md), and moves what a store has to a new one."""
 import heapq
 import io
 import itertools
@@ -6,18 +6,17 @@ import re
 from typing import BinaryIO, Callable, Iterator, List, NamedTuple, Optional, Tuple, Union
 
 from . import TYPE_CHECKING
-from .commands import Commands
 from .sessions import PIECE_LEN, Session
-from .values import Buffer, ObjectRow, Refused, StoreError, check_bytes
+from .values import FILED, Buffer, ObjectRow, Refused, StoreError, check_bytes
 
 if TYPE_CHECKING:
+    from .commands import Commands
     from .store import Store
-    from .transfers import Transfers
 
 LINE = re.compile(rb"(?:tenant [0-9]{1,19}|limit [0-9]{1,19} [0-9]{1,19}|forget [0-9]{1,19} [0-9a-f]{64}|fileas ([0-9]{1,19}) ([0-9a-f]{64}) ([0-9]{1,14}))\n")
 WORDS = (b"tenant ", b"limit ", b"forget ", b"fileas ")
-DONE = ("tenant", "ok", "new", "known")
-"""The first words of answers to lines that were run."""
+DONE = f"tenant N|ok|{FILED}"
+"""The form of answers to lines that were run."""
 MAX_LINE_LEN = 1 << 7
 MAX_BATCH = 40
 """How many lines are sent before the first one's answer is read. Their answers fit into the smallest pipe, of 4096 bytes: Linux gives such ones to a user who
@@ -91,13 +90,13 @@ def batches_of(lines: Iterator[Line]) -> Iterator[List[Line]]:
 
 
 def run_lines(
-    store: "Transfers", log: Union[Buffer, BinaryIO], tick: Tick = lambda: None, skip: Optional[Callable[[LogError], None]] = None
+    store: "Commands", log: Union[Buffer, BinaryIO], tick: Tick = lambda: None, skip: Optional[Callable[[LogError], None]] = None
 ) -> int:
-    """See `Transfers.run_lines`. If `skip` is given, it is called for an object that has another address, in place of an error."""
+    """See `Commands.run_lines`. If `skip` is given, it is called for an object that has another address, in place of an error."""
     file: BinaryIO = log if hasattr(log, "readline") else io.BytesIO(check_bytes(log))  # type: ignore[assignment]
     end = 0
     for batch in batches_of(lines_of(file)):
-        refusals = run_long(store, batch[0], file, tick) if batch and batch[0].length > PIECE_LEN else run_batch(store, batch)
+        refusals = run_long(store, batch[0], file) if batch and batch[0].length > PIECE_LEN else run_batch(store, batch)
         for line, refusal in zip(batch, refusals):
             if refusal is not None and refusal.number == "S11" and skip is not None:
                 skip(LogError(line.number, line.offset, refusal))
@@ -108,7 +107,7 @@ def run_lines(
     return end
 
 
-def run_batch(store: Commands, batch: List[Line]) -> List[Optional[Refused]]:
+def run_batch(store: "Commands", batch: List[Line]) -> List[Optional[Refused]]:
     """Runs lines, which are all sent before an answer is read. Returns the refusal of each, or None."""
 
     def run(session: Session) -> List[Optional[Refused]]:
@@ -118,18 +117,18 @@ def run_batch(store: Commands, batch: List[Line]) -> List[Optional[Refused]]:
     return store._in_turn(run) if batch else []
 
 
-def run_long(store: "Transfers", line: Line, log: BinaryIO, tick: Tick) -> List[Optional[Refused]]:
+def run_long(store: "Commands", line: Line, log: BinaryIO) -> List[Optional[Refused]]:
     """Runs a line that files an object, whose bytes are read and sent in parts."""
     _, tenant, address, _ = line.text.decode().split()
     log.seek(line.offset + len(line.text))
     try:
-        store.upload(log, int(tenant), line.length, address=address, progress=lambda _: tick())
+        store.upload(log, int(tenant), line.length, address=address)
     except Refused as refusal:
         return [refusal]
     return [None]
 
 
-def numbered(store: Commands, tenant: int) -> Iterator[Tuple[int, int, ObjectRow]]:
+def numbered(store: "Commands", tenant: int) -> Iterator[Tuple[int, int, ObjectRow]]:
     """Yields the objects that a tenant holds: what is one above the number of each, the tenant, and its address and length. Each may be forgotten after it."""
     following = 0
     while True:
@@ -139,7 +138,7 @@ def numbered(store: Commands, tenant: int) -> Iterator[Tuple[int, int, ObjectRow
         yield following, tenant, rows[0]
 
 
-def move(source: "Transfers", target: "Transfers") -> None:
+def move(source: "Commands", target: "Commands") -> None:
     """Moves the objects of all tenants to a store that has these tenants, one after the other, in the order in which they were filed."""
     for _, tenant, (address, length) in heapq.merge(*(numbered(source, tenant) for tenant in source.tenants())):
         target.upload(source.fetch(tenant, address) if length <= PIECE_LEN else source.open(tenant, address, 0), tenant, length)

@@ -1,6 +1,6 @@
 """A folder that has a log of a store, from which the store is restored: that of a server (`--save FOLDER`), or one in this process.
 
-The file `log` has lines of a session, as the store gives them for `redo` (docs/COMMANDS.md): an empty store that runs them has the tenants, their limits, the
+The file `log` has lines of a session, as the store gives them for `redo` (docs/PROTOCOL.md): an empty store that runs them has the tenants, their limits, the
 objects and their holders. What was changed since the last time is appended and synced. A log of which the store has less than half is written anew to
 `log.new`, which then replaces it. The file `clean` is there if the log was finished, and has everything.
 
@@ -17,29 +17,21 @@ from . import TYPE_CHECKING
 from .console import count_text
 from .files import FolderInUse, create_anew, lock_folder, opener_in
 from .redo import LogError, Tick, renew, run_lines
-from .transfers import Transfers
+from .commands import Commands
 from .values import MAX_REDONE, Counts, Ended, Refused, StoreError
 
 if TYPE_CHECKING:
     from .store import Store
 
-LOG = "log"
-NEW_LOG = "log.new"
-CLEAN = "clean"
+LOG, NEW_LOG, CLEAN = "log", "log.new", "clean"
 IGNORED = {NEW_LOG, CLEAN, "lost+found"}
 """Names that a folder without a log may have: what a process that was killed leaves, and what a new file system has."""
-LINE_LEN = 88
-"""About how long a line of a log is."""
 COUNTS = (MAX_REDONE, 1 << 6, 1)
 """How many entries are redone at once: fewer if the store has no memory for more."""
-SYNC_LEN = 1 << 28
-"""How many bytes are written between two syncs."""
-MIN_REPLACED_LEN = 1 << 20
-"""A log that is shorter isn't written anew."""
-SECONDS_OF_WRITING = 0.5
-"""For how long a log is written anew before the old one is extended again."""
-SECONDS_BETWEEN_TRIES = 60.0
-"""How long after a log couldn't be written anew this is tried again."""
+LINE_LEN, SYNC_LEN, MIN_REPLACED_LEN = 88, 1 << 28, 1 << 20
+"""About how long a line of a log is; how many bytes are written between two syncs; and how long a log has to be to be written anew."""
+SECONDS_OF_WRITING, SECONDS_BETWEEN_TRIES = 0.5, 60.0
+"""For how long a log is written anew before the old one is extended again; and how long after it couldn't be written anew this is tried again."""
 ERRORS = (OSError, StoreError, MemoryError, ValueError)
 """What can fail."""
 
@@ -76,40 +68,27 @@ class LogFile:
     """A log that is open, and up to which entry of the store it goes."""
 
     def __init__(self, file: BinaryIO) -> None:
-        self._file = file
+        self.file = file
         self.length, self.entry = self._synced = 0, 0
-
-    def status(self) -> os.stat_result:
-        """The status of the file."""
-        return os.fstat(self._file.fileno())
-
-    def close(self) -> None:
-        """Closes the file."""
-        self._file.close()
 
     def begin(self, length: int, entry: int) -> int:
         """Goes on after bytes that have what a store has up to an entry, and removes others. Returns how many these were."""
-        torn = self.status().st_size - length
+        torn = os.fstat(self.file.fileno()).st_size - length
         if torn:
-            os.ftruncate(self._file.fileno(), length)
-        os.fsync(self._file.fileno())
+            os.ftruncate(self.file.fileno(), length)
+        os.fsync(self.file.fileno())
         self.length, self.entry = self._synced = length, entry
         return torn
 
-    def extend(self, store: Transfers, target: int, tick: Tick, end: float = math.inf) -> bool:
+    def extend(self, store: Commands, target: int, tick: Tick, end: float = math.inf) -> bool:
         """Appends the lines that redo the entries up to number `target`, and maybe further ones. False if there wasn't enough time. Bytes that belong to no
-        answer, as after an error, are removed."""
-        if self.status().st_size > self.length:
-            os.ftruncate(self._file.fileno(), self.length)
-        try:
-            while self.entry < target and time.monotonic() < end:
-                self._append(store, tick)
-                if self.length - self._synced[0] >= SYNC_LEN:
-                    self.sync()
-        except BaseException:
-            with contextlib.suppress(OSError):
-                os.ftruncate(self._file.fileno(), self.length)
-            raise
+        answer, as after an error, are removed before."""
+        if os.fstat(self.file.fileno()).st_size > self.length:
+            os.ftruncate(self.file.fileno(), self.length)
+        while self.entry < target and time.monotonic() < end:
+            self._append(store, tick)
+            if self.length - self._synced[0] >= SYNC_LEN:
+                self.sync()
         return self.entry >= target
 
     def sync(self) -> None:
@@ -117,13 +96,13 @@ class LogFile:
         if self._synced == (self.length, self.entry):
             return
         try:
-            os.fdatasync(self._file.fileno())
+            os.fdatasync(self.file.fileno())
         except OSError:
             self.length, self.entry = self._synced
             raise
         self._synced = self.length, self.entry
 
-    def _append(self, store: Transfers, tick: Tick) -> None:
+    def _append(self, store: Commands, tick: Tick) -> None:
         """Appends one answer of the store."""
         end, fault = self.length, None
 
@@ -132,19 +111,16 @@ class LogFile:
             nonlocal end, fault
             try:
                 while fault is None and piece.nbytes:
-                    count = os.pwrite(self._file.fileno(), piece, end)
+                    count = os.pwrite(self.file.fileno(), piece, end)
                     piece, end = piece[count:], end + count
             except OSError as error:
                 fault = error
             tick()
 
         for count in COUNTS:
-            try:
+            with contextlib.suppress(*[Refused] * (count > 1)):
                 following = store._redo_to(write, self.entry, count)
                 break
-            except Refused:
-                if count == COUNTS[-1]:
-                    raise
         if fault is not None:
             raise fault
         if following <= self.entry:
@@ -199,7 +175,7 @@ class RedoLog:
         create_anew(self._folder.number, NEW_LOG).close()
         self._folder.remove(NEW_LOG)
 
-    def restore(self, store: Transfers, tick: Tick = lambda: None) -> Optional[str]:
+    def restore(self, store: Commands, tick: Tick = lambda: None) -> Optional[str]:
         """Restores the store into a new one, and returns what it has; None if it has nothing. Removes an incomplete line at the log's end, and reports objects
         that are damaged, which aren't restored. Raises SaveError; then nothing in the folder was changed."""
         path = f"{self._folder.path}/{LOG}"
@@ -218,7 +194,7 @@ class RedoLog:
             self._report(f"{path} ended within a line: its last {count_text(torn, 'byte')} {'is' if torn == 1 else 'are'} removed")
         return (counts_text(counts) + ("" if self._is_clean else "; the last process was killed")) if counts.tenants else None
 
-    def follow(self, store: Transfers) -> bool:
+    def follow(self, store: Commands) -> bool:
         """Appends what was changed, and writes the log anew for half a second if that pays. What fails is reported once, unless the store has ended. Returns
         whether the log is still being written anew."""
         with self._lock:
@@ -256,7 +232,7 @@ class RedoLog:
             self._log.begin(self._log.length, new.counts().entries)
             return new
 
-    def finish(self, store: Transfers, tick: Tick = lambda: None) -> str:
+    def finish(self, store: Commands, tick: Tick = lambda: None) -> str:
         """Appends what was changed, syncs the log, and returns what the store has. Later calls of `follow` have no effect. Raises SaveError; then the log can
         be followed again."""
         with self._lock:
@@ -274,14 +250,14 @@ class RedoLog:
             return counts_text(counts)
 
     def close(self) -> None:
-        """Unlocks the folder, and saves nothing more. A process that ends does the same."""
+        """Unlocks the folder, and saves nothing more. The end of the process does the same."""
         with self._lock:
             self._is_finished = True
             self._drop_new()
-            self._log.close()
+            self._log.file.close()
             os.close(self._folder.number)
 
-    def _append(self, store: Transfers, tick: Tick) -> Counts:
+    def _append(self, store: Commands, tick: Tick) -> Counts:
         """Appends all that was changed until now, and returns what the store had then. A log that was removed, replaced or truncated, or that wasn't restored,
         is written anew."""
         counts = store.counts()
@@ -299,20 +275,19 @@ class RedoLog:
 
     def _is_in_place(self) -> bool:
         """Whether the log is still the one that was opened."""
-        try:
+        with contextlib.suppress(OSError, SaveError):
             found = self._folder.status(LOG)
-        except (OSError, SaveError):
-            return False
-        return os.path.samestat(found, self._log.status()) and found.st_size >= self._log.length
+            return os.path.samestat(found, os.fstat(self._log.file.fileno())) and found.st_size >= self._log.length
+        return False
 
-    def _pays(self, store: Transfers, counts: Counts) -> bool:
+    def _pays(self, store: Commands, counts: Counts) -> bool:
         """Whether the log is more than twice as long as a new one would be, if it has a line for each object. Several may hold the same: then it has more."""
         half, lines_len = self._log.length / 2, LINE_LEN * (counts.objects + counts.tenants)
         if time.monotonic() < self._next_try or self._log.length <= self._min_len or half <= counts.bytes + lines_len:
             return False
         return half > sum(usage.used for usage in store.tenants().values()) + lines_len
 
-    def _write_anew(self, store: Transfers, counts: Counts, tick: Tick, end: float = math.inf) -> None:
+    def _write_anew(self, store: Commands, counts: Counts, tick: Tick, end: float = math.inf) -> None:
         """Writes a new log until it has all that the store had, and puts it in place of the old one; or writes some of it."""
         try:
             if self._new is None:
@@ -327,7 +302,7 @@ class RedoLog:
             raise
         # one that didn't pay isn't repeated soon
         self._min_len = 2 * self._new.length if end < math.inf and 2 * self._new.length > self._log.length else MIN_REPLACED_LEN
-        self._log.close()
+        self._log.file.close()
         self._log, self._new, self._is_folder_synced, self._is_restored = self._new, None, False, True
         self._sync_folder()
 
@@ -339,7 +314,7 @@ class RedoLog:
     def _drop_new(self) -> None:
         """Removes a log that is being written anew."""
         if self._new is not None:
-            self._new.close()
+            self._new.file.close()
             self._new = None
             with contextlib.suppress(OSError):
                 self._folder.remove(NEW_LOG)
@@ -362,16 +337,14 @@ def open_folder(path: str) -> Folder:
     saved could be replaced."""
     with contextlib.suppress(FileExistsError):
         os.mkdir(path, 0o700)
-        above = os.open(os.path.dirname(os.path.abspath(path)), os.O_RDONLY | os.O_DIRECTORY)
-        try:
+        with contextlib.ExitStack() as ending:
+            above = os.open(os.path.dirname(os.path.abspath(path)), os.O_RDONLY | os.O_DIRECTORY)
+            ending.callback(os.close, above)
             os.fsync(above)
-        finally:
-            os.close(above)
     folder = Folder(path, lock_folder(path))
     found = os.fstat(folder.number)
-    if found.st_uid == os.geteuid() and not found.st_mode & (stat.S_IWGRP | stat.S_IWOTH):
+    is_own = found.st_uid == os.geteuid()
+    if is_own and not found.st_mode & (stat.S_IWGRP | stat.S_IWOTH):
         return folder
     os.close(folder.number)
-    if found.st_uid != os.geteuid():
-        raise SaveError(f"{path} belongs to another user: name a folder of your own")
-    raise SaveError(f"{path} can be written to by others: chmod go-w {path}")
+    raise SaveError(f"{path} can be written to by others: chmod go-w {path}" if is_own else f"{path} belongs to another user: name a folder of your own")

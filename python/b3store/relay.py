@@ -2,50 +2,18 @@
 import array
 import contextlib
 import os
-import select
 import socket
+import threading
 import time
-from typing import Any, Callable
+from typing import Callable
 
+from .client import ASK_FOR_PIPES
 from .server_store import Pipes, StoreProcess
 
-ASK_FOR_PIPES = b"pipes\n"
-"""The first line of a client that wants its session's pipes, and the line that they come with. The store has no command of this name."""
 BUFFER = 1 << 18
 """The maximum number of bytes that are moved at once."""
-SECONDS_BETWEEN_CHECKS = 0.5
-SECONDS_BETWEEN_LOOKS = 0.01
-SECONDS_TO_KEEP = 5.0
-"""After this time it is reported that a client keeps the pipes of a connection that has ended."""
-
-
-class Flow:
-    """Bytes on their way from one descriptor to another. Neither blocks."""
-
-    def __init__(self, source: int, target: int, first: bytes = b"") -> None:
-        self._source, self._target, self._rest = source, target, memoryview(first)
-        self._room = memoryview(bytearray(BUFFER))
-        self.is_over = False
-
-    def wait_by(self, poll: Any) -> None:
-        """Registers what is waited for."""
-        if not self.is_over:
-            poll.register(*((self._target, select.POLLOUT) if self._rest else (self._source, select.POLLIN)))
-
-    def move(self) -> bool:
-        """Moves what can be moved now. False if an end fails: the target then takes no more."""
-        try:
-            if not (self._rest or self.is_over):
-                piece = self._room[: os.readv(self._source, [self._room])]
-                self._rest, self.is_over = piece, not piece
-            if self._rest:
-                self._rest = self._rest[os.write(self._target, self._rest) :]
-        except BlockingIOError:
-            pass
-        except OSError:
-            self.is_over = True
-            return False
-        return True
+SECONDS_BETWEEN_LOOKS, SECONDS_TO_KEEP, SECONDS_BETWEEN_CHECKS = 0.01, 5.0, 0.5
+"""How often is looked whether a session has ended; and after how long it is reported that a client keeps its pipes, and looked less often."""
 
 
 class Connection:
@@ -74,11 +42,10 @@ class Connection:
         with contextlib.ExitStack() as ending:
             pipes = self._store.open_session()
             ending.callback(self._wait_for_end, pipes)
-            with pipes.requests, pipes.answers:
-                if first.startswith(ASK_FOR_PIPES):
-                    self._pass(pipes)
-                else:
-                    self._relay(pipes, first)
+            if first.startswith(ASK_FOR_PIPES):
+                self._pass(pipes)
+            else:
+                self._relay(pipes, first)
             # the session is the client's now
             while self.has_pipes and self.socket.recv(BUFFER):
                 pass
@@ -94,35 +61,39 @@ class Connection:
     def _pass(self, pipes: Pipes) -> None:
         """Passes the client the session's pipes. The server has no more to do with them."""
         self.has_pipes = True
-        ends = array.array("i", [pipes.requests.fileno(), pipes.answers.fileno()])
-        self.socket.sendmsg([ASK_FOR_PIPES], [(socket.SOL_SOCKET, socket.SCM_RIGHTS, ends)])
+        with pipes.requests, pipes.answers:
+            ends = array.array("i", [pipes.requests.fileno(), pipes.answers.fileno()])
+            self.socket.sendmsg([ASK_FOR_PIPES], [(socket.SOL_SOCKET, socket.SCM_RIGHTS, ends)])
 
     def _relay(self, pipes: Pipes, first: bytes) -> None:
         """Moves bytes both ways until the session has ended. When the client has left, what it has sent is still executed."""
-        for end in self.socket, pipes.requests, pipes.answers:
-            os.set_blocking(end.fileno(), False)
-        requests = Flow(self.socket.fileno(), pipes.requests.fileno(), first)
-        answers = Flow(pipes.answers.fileno(), self.socket.fileno())
-        with open(os.devnull, "wb", buffering=0) as nowhere:
-            while not (answers.is_over or self._is_cut):
-                poll = select.poll()
-                requests.wait_by(poll)
-                answers.wait_by(poll)
-                poll.poll(1000 * SECONDS_BETWEEN_CHECKS if requests.is_over else None)
-                requests.move()
-                if requests.is_over:
-                    pipes.requests.close()
-                if not answers.move():
-                    answers = Flow(pipes.answers.fileno(), nowhere.fileno())
+        sending, has_left = threading.Thread(target=self._send_requests, args=(pipes, first), daemon=True), False
+        with pipes.requests, pipes.answers:
+            sending.start()
+            for piece in iter(lambda: b"" if self._is_cut else os.read(pipes.answers.fileno(), BUFFER), b""):
+                try:
+                    if not has_left:
+                        self.socket.sendall(piece)
+                except OSError:
+                    has_left = True
+            pipes.answers.close()
+            self.end()
+            sending.join()
+
+    def _send_requests(self, pipes: Pipes, piece: bytes) -> None:
+        """Moves what the client sends to its session, until one of them ends."""
+        with contextlib.suppress(OSError), pipes.requests:
+            while piece:
+                rest = memoryview(piece)
+                while rest:
+                    rest = rest[os.write(pipes.requests.fileno(), rest) :]
+                piece = self.socket.recv(BUFFER)
 
     def _wait_for_end(self, pipes: Pipes) -> None:
         """Waits until the store has ended the session."""
         start, pause = time.monotonic(), SECONDS_BETWEEN_LOOKS
-        try:
-            while not pipes.has_ended():
-                time.sleep(pause)
-                if self.has_pipes and pause < SECONDS_BETWEEN_CHECKS and time.monotonic() > start + SECONDS_TO_KEEP:
-                    pause = SECONDS_BETWEEN_CHECKS
-                    self._report("a client keeps the pipes of a connection that has ended: its session lasts until it closes them")
-        finally:
-            pipes.remove_names()
+        while not pipes.has_ended():
+            time.sleep(pause)
+            if self.has_pipes and pause < SECONDS_BETWEEN_CHECKS and time.monotonic() > start + SECONDS_TO_KEEP:
+                pause = SECONDS_BETWEEN_CHECKS
+                self._report("a client keeps the pipes of a connection that has ended: its session lasts until it closes them")

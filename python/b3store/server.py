@@ -1,4 +1,4 @@
-"""A store that many processes share: `python -m b3store.server --socket PATH` (docs/SERVER.md).
+"""A store that many processes share: `python -m b3store.server --socket PATH` (docs/USE.md).
 
     $ python -m b3store.server --socket /tmp/store &
     b3store.server: listening on /tmp/store
@@ -19,6 +19,7 @@ import _thread
 import argparse
 import collections
 import contextlib
+import functools
 import math
 import os
 import resource
@@ -31,7 +32,7 @@ import threading
 import time
 from typing import Callable, Deque, List, Optional, Set, TextIO, Tuple
 
-from .console import number, one_line, open_standard_files, size
+from .console import count_text, number, one_line, open_standard_files, size
 from .listening import Listener, ListenError, inherited, listen_at, more_time, notify
 from .redo_log import RedoLog, SaveError, reason_of
 from .relay import Connection
@@ -39,28 +40,19 @@ from .server_store import SECONDS_OF_SILENCE, StoreProcess, status_text
 from .values import MAX_SESSIONS, StoreError, half_of_memory
 
 NAME = "b3store.server"
-MAX_WAITING = 1024
-"""The maximum number of connections that wait for a turn. Others stay in the queues of the listening sockets."""
-MAX_READS = 16
-"""How often more is read from a client that is sent `busy`."""
 SECONDS_BETWEEN_WRITES = 1.0
 """How long the server waits before it appends to the log again."""
-SECONDS_TO_CUT = 2.0
-"""How long the sessions of connections that are ended by the server may take to execute the commands that they have read."""
-SECONDS_FOR_LAST = 30.0
-"""How long they may then take for the last command, once their answers are not read any more."""
-SECONDS_FOR_SAVES = 600.0
-"""For how long a save that fails is tried again."""
-SECONDS_BETWEEN_SAVES = 1.0
+SECONDS_TO_CUT, SECONDS_FOR_LAST = 2.0, 30.0
+"""How long the sessions of connections that are ended by the server may take to execute the commands that they have read; and then for the last command, once
+their answers are not read any more."""
+SECONDS_FOR_SAVES, SECONDS_BETWEEN_SAVES = 600.0, 1.0
+"""For how long, and how often, a save that fails is tried again."""
 SECONDS_FOR_LINE = 0.2
 """How long a standard stream may take to have room for a line, which is dropped then."""
-SECONDS_BETWEEN_LOOKS = 0.02
-SECONDS_AT_REST = 5.0
-"""How long the server sleeps if nothing happens."""
-STACK = 1 << 18
-FILES = 64
-"""How many descriptors the server itself uses, at most."""
-FILES_PER_SESSION = 6
+SECONDS_BETWEEN_LOOKS, SECONDS_AT_REST = 0.02, 5.0
+"""How long the server sleeps while it ends, and otherwise if nothing happens."""
+MAX_READS, STACK = 16, 1 << 18
+"""How often more is read from a client that is sent `busy`; and the stack of a thread."""
 WRITING = threading.Lock()
 """Is held while a line is written to a standard stream."""
 EPILOG = """\
@@ -103,10 +95,6 @@ class Connections:
 
     def count(self) -> int:
         return len(self._served) + len(self._waiting)
-
-    def is_full(self) -> bool:
-        """Whether no further connection is taken now."""
-        return len(self._waiting) >= MAX_WAITING
 
     def add(self, connection: socket.socket) -> None:
         """Lets a connection wait for its turn."""
@@ -179,43 +167,44 @@ def send_busy(connection: socket.socket) -> None:
                 break
 
 
+def follow(store: StoreProcess, log: RedoLog) -> None:
+    """Appends to the log what clients change, until the process ends."""
+    while True:
+        if not log.follow(store):
+            time.sleep(SECONDS_BETWEEN_WRITES)
+
+
 class Server:
     """The loop that accepts connections, until a signal or the end of the store."""
 
     def __init__(self, store: StoreProcess, listeners: List[Listener], options: argparse.Namespace, log: Optional[RedoLog]) -> None:
         self._store, self._listeners, self._options, self._log = store, listeners, options, log
+        self._loss = "everything in it is lost" + (", except for what its log has" if log else "")
         self._connections, self._more_time = Connections(store, options), more_time()
         self._deadline: Optional[float] = None
         """Once the server has begun to end: when the clients that are served are ended at the latest."""
         self._next_save, self._last_save, self._fault = -math.inf, math.inf, ""
         """When the store is saved at the earliest, since when the save that is tried is the last one, and why the one before failed."""
         self._selector = selectors.DefaultSelector()
-        self._signals, written = socket.socketpair()
-        for end in (self._signals, written):
+        self._signals, self._written = socket.socketpair()
+        for end in self._signals, self._written:
             end.setblocking(False)
-        self._written = written
-        signal.set_wakeup_fd(written.fileno(), warn_on_full_buffer=False)
+        signal.set_wakeup_fd(self._written.fileno(), warn_on_full_buffer=False)
         signal.signal(signal.SIGCHLD, lambda *_: None)
         handle_ending(lambda *_: None)
-        self._selector.register(self._signals, selectors.EVENT_READ)
+        self._selector.register(self._signals, selectors.EVENT_READ, self._read_signals)
         for listener in listeners:
             listener.socket.setblocking(False)
-            self._selector.register(listener.socket, selectors.EVENT_READ, listener)
+            self._selector.register(listener.socket, selectors.EVENT_READ, functools.partial(self._accept, listener.socket))
         if log is not None:
-            _thread.start_new_thread(self._follow, (log,))
-
-    def _follow(self, log: RedoLog) -> None:
-        """Appends to the log what clients change, until the process ends."""
-        while True:
-            if not log.follow(self._store):
-                time.sleep(SECONDS_BETWEEN_WRITES)
+            _thread.start_new_thread(follow, (store, log))
 
     def run(self) -> int:
         """Serves, and returns the exit status."""
         while True:
             status = self._store.status()
             if status is not None:
-                report(f"the store ended with {status_text(status)}; {self._lost()}")
+                report(f"the store ended with {status_text(status)}; {self._loss}")
                 return 3
             now, pause = time.monotonic(), SECONDS_AT_REST
             if self._deadline is not None:
@@ -226,26 +215,19 @@ class Server:
                     if status is not None:
                         return status
             for key, _ in self._selector.select(min(pause, self._connections.close_waiting(now) - now)):
-                if key.data is None:
-                    self._read_signals()
-                else:
-                    self._accept(key.data)
-
-    def _lost(self) -> str:
-        """What is lost with the store."""
-        return "everything in it is lost" + (", except for what its log has" if self._log else "")
+                key.data()
 
     def _end(self) -> Optional[int]:
         """Ends the clients and the store, and returns the exit status; None if the store can't be saved yet."""
-        cut = self._connections.count()
-        if cut and not self._fault:
-            report(f"the server ends while {cut} {'connection is' if cut == 1 else 'connections are'} open")
+        count = self._connections.count()
+        if count and not self._fault:
+            report(f"the server ends while {count_text(count, 'connection')} {'is' if count == 1 else 'are'} open")
         fault = "" if self._log is None else self._save(self._log)
         if fault and self._tries_again(fault):
             return None
         status = self._store.end()
         if self._store.was_silent:
-            report(f"the store did not answer for {SECONDS_OF_SILENCE:.0f} s, and was killed; {self._lost()}")
+            report(f"the store did not answer for {SECONDS_OF_SILENCE:.0f} s, and was killed; {self._loss}")
         elif status:
             report(f"the store ended with {status_text(status)}")
         return 4 if fault else 3 if status else 0
@@ -291,14 +273,11 @@ class Server:
                 listener.close()
         self._connections.close_waiting(math.inf)
 
-    def _accept(self, listener: Listener) -> None:
-        if self._connections.is_full():
-            time.sleep(SECONDS_BETWEEN_LOOKS)
-            return
+    def _accept(self, listening: socket.socket) -> None:
         try:
             # a signal may have come with the connection
             if self._deadline is None:
-                self._connections.add(listener.socket.accept()[0])
+                self._connections.add(listening.accept()[0])
         except (BlockingIOError, ConnectionAbortedError):
             return
         except (OSError, MemoryError) as error:
@@ -343,15 +322,6 @@ def open_listeners(words: argparse.Namespace, ending: contextlib.ExitStack) -> L
     return listeners
 
 
-def raise_file_limit(sessions: int) -> None:
-    """Raises the limit on open files to what all connections may need, as far as the system allows."""
-    soft, hard = resource.getrlimit(resource.RLIMIT_NOFILE)
-    wanted = FILES + FILES_PER_SESSION * sessions + MAX_WAITING
-    if soft != resource.RLIM_INFINITY and soft < wanted:
-        with contextlib.suppress(OSError, ValueError):
-            resource.setrlimit(resource.RLIMIT_NOFILE, (wanted if hard == resource.RLIM_INFINITY else min(wanted, hard), hard))
-
-
 def serve(words: argparse.Namespace) -> int:
     """Starts the store, and serves it until the end."""
     exit_at_ending()
@@ -360,7 +330,9 @@ def serve(words: argparse.Namespace) -> int:
     if words.socket and words.save and os.path.realpath(os.path.dirname(words.socket) or ".") == os.path.realpath(words.save):
         # the folder of a socket and that of a save are locked
         raise ListenError(f"{words.socket} can't be in the folder of --save")
-    raise_file_limit(words.sessions)
+    # a connection that waits has a descriptor, and one that is served has six
+    with contextlib.suppress(OSError, ValueError):
+        resource.setrlimit(resource.RLIMIT_NOFILE, (resource.getrlimit(resource.RLIMIT_NOFILE)[1],) * 2)
     threading.stack_size(STACK)
     with contextlib.ExitStack() as ending:
         log = RedoLog(words.save, report, words.sync != "no") if words.save else None

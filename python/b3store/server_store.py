@@ -13,27 +13,22 @@ import subprocess
 import tempfile
 import threading
 import time
-from typing import Callable, Iterator, List, NamedTuple, Optional, TypeVar
+from typing import Any, Callable, Iterator, List, NamedTuple, Optional, TypeVar
 
 from .files import FolderInUse, lock_folder
 from .sessions import Session, set_pipe_size
-from .transfers import Transfers
+from .commands import Commands
 from .values import Ended, Refused, StoreError
 
 Value = TypeVar("Value")
 
-SECONDS_TO_BEGIN = 30.0
-"""How long the program may take to answer, and to open a session."""
-SECONDS_TO_END = 30.0
-"""How long the program may take to exit once its standard input is closed."""
-SECONDS_TO_ANSWER = 1.0
-"""How long the server waits at its end for the answers to its own commands."""
-SECONDS_OF_SILENCE = 60.0
-"""How long it then waits for the next piece of an answer, before it kills the process."""
+SECONDS_TO_WAIT = 30.0
+"""How long the program may take to answer, to open a session, and to exit once its standard input is closed."""
+SECONDS_TO_ANSWER, SECONDS_OF_SILENCE = 1.0, 60.0
+"""How long the server waits at its end for the answers to its own commands; and then for the next piece of an answer, before it kills the process."""
 SECONDS_TO_SEE = 0.5
-MAX_PIPE_BYTES = 1 << 20
-MAX_PIPES_BYTES = 1 << 25
-"""The maximum capacity of all pipes together. Linux grants a user 64 MiB by default."""
+MAX_PIPE_BYTES, MAX_PIPES_BYTES = 1 << 20, 1 << 25
+"""The maximum capacity of a pipe, and of all together. Linux grants a user 64 MiB by default."""
 
 
 class Pipes(NamedTuple):
@@ -44,23 +39,18 @@ class Pipes(NamedTuple):
     names: List[str]
 
     def has_ended(self) -> bool:
-        """Whether the store has closed its ends, which it does when it has ended the session. No process may have the other ends any more."""
+        """Whether the store has closed its ends, which it does when it has ended the session. No process may have the other ends any more. Then the names are
+        removed."""
         try:
             os.close(os.open(self.names[0], os.O_WRONLY | os.O_NONBLOCK))
+            return False
         except OSError as error:
-            return error.errno in (errno.ENXIO, errno.ENOENT)
-        return False
-
-    def remove_names(self) -> None:
-        """Removes the names, once the session has ended."""
+            if error.errno not in (errno.ENXIO, errno.ENOENT):
+                return False
         for name in self.names:
             with contextlib.suppress(FileNotFoundError):
                 os.remove(name)
-
-
-def has_ended(reason: str = "the store has ended") -> Ended:
-    """The error when the process has ended."""
-    return Ended(reason)
+        return True
 
 
 def status_text(status: int) -> str:
@@ -69,7 +59,7 @@ def status_text(status: int) -> str:
     return f"status {status}" + (f", killed by {names.get(status, f'signal {-status}')}" if status < 0 else "")
 
 
-class StoreProcess(Transfers):
+class StoreProcess(Commands):
     """A running `b3store serve --at DOOR --sessions N`. Its standard input and output are the server's own session, which the methods of a store use."""
 
     def __init__(self) -> None:
@@ -84,8 +74,7 @@ class StoreProcess(Transfers):
 
     def start(self, program: str, sessions: int, memory: int, *options: str) -> None:
         """Starts the process, with further options. It may take up to `memory` bytes. Raises StoreError if it isn't a store."""
-        # a power of two
-        self._size = 1 << (min(MAX_PIPE_BYTES, MAX_PIPES_BYTES // (2 * sessions)).bit_length() - 1)
+        self._size = min(MAX_PIPE_BYTES, MAX_PIPES_BYTES // (2 * sessions))
         self._door = os.path.join(self._folder, "door")
         os.mkfifo(self._door, 0o600)
         # also for reading, so that neither this nor a write waits for the store
@@ -93,16 +82,13 @@ class StoreProcess(Transfers):
         words = [program, "serve", "--at", self._door, "--sessions", str(sessions), *options]
         try:
             # In its own session, so that an interrupt at a terminal reaches only the server.
-            self._process = subprocess.Popen(words, stdin=subprocess.PIPE, stdout=subprocess.PIPE, start_new_session=True)
+            self._process: Any = subprocess.Popen(words, stdin=subprocess.PIPE, stdout=subprocess.PIPE, start_new_session=True)
         except OSError as error:
             raise StoreError(f"cannot start {program}: {error.strerror}") from None
-        assert self._process.stdin and self._process.stdout
         self._commands, self._answers = self._process.stdin, self._process.stdout
-        self._session = Session(self._commands, self._answers, has_ended)
-        self._is_started = True
+        self._session, self._is_started = Session(self._commands, self._answers, "the store has ended"), True
         try:
-            self._commands.write(b"stat\n")
-            self._commands.flush()
+            self._session.write(b"stat\n")
             self._expect_totals(self._answers.fileno(), "the program")
             self._limit(memory)
             for pipe in self._commands, self._answers:
@@ -115,27 +101,25 @@ class StoreProcess(Transfers):
 
     @contextlib.contextmanager
     def killed_if_silent(self, tick: Callable[[], None]) -> Iterator[Callable[[], None]]:
-        """Kills the process if the block makes no progress for too long, as if it is stopped by SIGSTOP. The block calls the result in place of `tick`."""
-        last, is_over = time.monotonic(), threading.Event()
+        """Kills the process if the block makes no progress for too long, as if it is stopped by SIGSTOP. The block, in the main thread, calls the result in
+        place of `tick`."""
 
         def progress() -> None:
-            nonlocal last
-            last = time.monotonic()
+            signal.setitimer(signal.ITIMER_REAL, SECONDS_OF_SILENCE)
             tick()
 
-        def watch() -> None:
-            while not is_over.wait(1.0):
-                if time.monotonic() - last > SECONDS_OF_SILENCE:
-                    self.was_silent = True
-                    return self._process.kill()
+        def kill(*_: Any) -> None:
+            # unless another process has sent the signal
+            if not signal.getitimer(signal.ITIMER_REAL)[0]:
+                self.was_silent = True
+                self._process.kill()
 
-        watching = threading.Thread(target=watch, daemon=True)
-        watching.start()
+        signal.signal(signal.SIGALRM, kill)
+        progress()
         try:
             yield progress
         finally:
-            is_over.set()
-            watching.join()
+            signal.setitimer(signal.ITIMER_REAL, 0)
 
     def _limit(self, memory: int) -> None:
         """Limits the memory that the process may take from now on. RLIMIT_AS would count what its threads have reserved and don't use, 64 MiB for each."""
@@ -149,8 +133,8 @@ class StoreProcess(Transfers):
         """Reads the answer to `stat`. No other answer is pending."""
         poll = select.poll()
         poll.register(answers, select.POLLIN)
-        if not poll.poll(1000 * SECONDS_TO_BEGIN):
-            raise StoreError(f"{who} gave no answer within {SECONDS_TO_BEGIN:.0f} s")
+        if not poll.poll(1000 * SECONDS_TO_WAIT):
+            raise StoreError(f"{who} gave no answer within {SECONDS_TO_WAIT:.0f} s")
         answer = os.read(answers, 1024)
         if not re.fullmatch(rb"objects [0-9]+ bytes .*\n", answer):
             raise StoreError(f"{who} answered {answer[:60]!r} to stat" if answer else f"{who} closed its output")
@@ -178,7 +162,7 @@ class StoreProcess(Transfers):
         """What a function returns for the session, which nothing else uses meanwhile. What an error left unread, as when memory runs out, is read next time."""
         with self._lock:
             if self._is_closing:
-                raise has_ended()
+                raise Ended("the store has ended")
             if self._is_behind:
                 self._catch_up()
             self._is_behind = True
@@ -198,7 +182,7 @@ class StoreProcess(Transfers):
         while not found.endswith(line):
             found = self._answers.readline()
             if not found:
-                raise has_ended()
+                raise Ended("the store has ended")
 
     def status(self) -> Optional[int]:
         """The exit status of the process, or None while it runs. Only the main thread asks: two threads that ask at once may both miss the end."""
@@ -234,8 +218,7 @@ class StoreProcess(Transfers):
             self._commands.close()
         if has_lock:
             self._lock.release()
-        for kill in (lambda: None), self._process.kill:
-            kill()
-            with contextlib.suppress(subprocess.TimeoutExpired):
-                return self._process.wait(SECONDS_TO_END)
-        return -signal.SIGKILL
+        with contextlib.suppress(subprocess.TimeoutExpired):
+            return int(self._process.wait(SECONDS_TO_WAIT))
+        self._process.kill()
+        return int(self._process.wait())

@@ -4,9 +4,9 @@ import fcntl
 import os
 import select
 import sys
-from typing import Any, BinaryIO, Callable, List, Optional, Tuple, Union
+from typing import Any, BinaryIO, Callable, List, Optional
 
-from .values import Buffer, Ended, Refused, parse_number, parse_refusal
+from .values import Buffer, Ended, Refused, parse
 
 READ_LEN = 1 << 16
 """The length of a session's read buffer."""
@@ -17,8 +17,9 @@ MAX_LINE_LEN = 1 << 12
 SET_PIPE_SIZE = 1031
 """The number of F_SETPIPE_SZ, which `fcntl` has from Python 3.10 on."""
 
-Kinds = Union[str, Tuple[str, ...]]
-"""The first word that an answer must have; or several, one of which it must have."""
+BUSY = "the server is busy: each of its sessions has a client"
+REFUSED = "refused ([SF][0-9]{1,2})(?: ([a-z]+) (?:N|A))?"
+"""The form of an answer that is a refusal."""
 
 
 def set_pipe_size(pipe: Any, size: int) -> None:
@@ -28,10 +29,12 @@ def set_pipe_size(pipe: Any, size: int) -> None:
 
 
 class Session:
-    """Two ends: commands are written to one, and answers read from the other."""
+    """Two ends: commands are written to one, and answers read from the other. `end` says what has happened when the other side has ended."""
 
-    def __init__(self, sending: Any, reading: BinaryIO, ended: Callable[..., Ended]) -> None:
-        self._sending, self._reading, self._ended = sending, reading, ended
+    def __init__(self, sending: Any, reading: BinaryIO, end: str) -> None:
+        self._sending, self._reading, self._end = sending, reading, end
+        self.fault: Optional[Ended] = None
+        """Why it can't be used any more."""
 
     def is_at_rest(self) -> bool:
         """Whether the other side has neither closed the connection nor sent anything. No answer may be due."""
@@ -52,74 +55,64 @@ class Session:
             if count:
                 views[0] = views[0][count:]
 
-    def ask(self, kinds: Kinds, line: str, content: Buffer = b"") -> List[str]:
-        """Sends a command, and returns the words of its answer."""
+    def ask(self, form: str, line: str, content: Buffer = b"") -> List[Any]:
+        """Sends a command, and returns the values in its answer."""
         self.write(line.encode("ascii") + b"\n", content)
-        return self.answer(kinds)
+        return self.answer(form)
 
-    def answer(self, kinds: Kinds) -> List[str]:
-        """Returns the words of an answer after its kind, or all of them if several kinds are allowed. Raises Refused."""
-        words = self.line()
-        if words[0] == "refused":
-            raise parse_refusal(words[1:])
-        if isinstance(kinds, tuple) and words[0] in kinds:
-            return words
-        if words == ["busy"]:
-            raise self._ended("the server is busy: each of its sessions has a client")
-        if words[0] != kinds or kinds == "ok" and len(words) > 1:
-            raise self._ended(f"the store answers {' '.join(words)[:60]!r}")
-        return words[1:]
+    def answer(self, form: str) -> List[Any]:
+        """Returns the values in an answer of a form (`values.parse`). Raises Refused."""
+        line = self.line()
+        if line.startswith("refused"):
+            name, label, value, address = parse(REFUSED, line)
+            raise Refused(name, address or value, label)
+        if line == "busy":
+            raise Ended(BUSY)
+        return parse(form, line)
 
-    def refusals(self, kinds: Kinds, count: int) -> List[Optional[Refused]]:
+    def refusals(self, form: str, count: int) -> List[Optional[Refused]]:
         """Reads several answers. Returns the refusal that each of them is, or None."""
-        return [self._refusal(kinds) for _ in range(count)]
+        found: List[Optional[Refused]] = []
+        while len(found) < count:
+            try:
+                self.answer(form)
+                found.append(None)
+            except Refused as refusal:
+                found.append(refusal)
+        return found
 
-    def _refusal(self, kinds: Kinds) -> Optional[Refused]:
-        try:
-            self.answer(kinds)
-        except Refused as refusal:
-            return refusal
-        return None
-
-    def line(self) -> List[str]:
-        """Reads a line, and returns its words."""
-        return self.text().split(" ")
-
-    def text(self) -> str:
+    def line(self) -> str:
         """Reads a line, and returns it without its newline."""
         line = self._call(self._reading.readline, MAX_LINE_LEN)
         if len(line) == MAX_LINE_LEN:
             raise ValueError("a line is too long")
         if not line.endswith(b"\n"):
-            raise self._ended()
+            raise Ended(self._end)
         return line[:-1].decode("ascii")
 
-    def content(self, words: List[str], max_len: int) -> bytes:
+    def content(self, count: int, max_len: int) -> bytes:
         """Reads the raw bytes of an answer."""
-        count = parse_number(words)
         if count > min(max_len, sys.maxsize):
             raise ValueError(f"{count} bytes instead of {max_len}")
         content = self._call(self._reading.read, count)
         if len(content) < count:
-            raise self._ended()
+            raise Ended(self._end)
         return content
 
-    def content_into(self, words: List[str], room: memoryview, min_len: int) -> int:
+    def content_into(self, count: int, room: memoryview, min_len: int) -> int:
         """Reads the raw bytes of an answer, at least `min_len`, into a buffer, and returns how many they are."""
-        count = parse_number(words)
         if not min_len <= count <= room.nbytes:
             raise ValueError(f"{count} bytes instead of {room.nbytes}")
         if self._call(self._reading.readinto, room[:count]) < count:  # type: ignore[attr-defined]
-            raise self._ended()
+            raise Ended(self._end)
         return count
 
-    def content_to(self, words: List[str], write: Callable[[memoryview], None]) -> None:
+    def content_to(self, count: int, write: Callable[[memoryview], None]) -> None:
         """Reads the raw bytes of an answer, and passes them to a function in pieces, each of which is in memory until the next one."""
-        count = parse_number(words)
         room = memoryview(bytearray(min(count, PIECE_LEN)))
         while count:
             piece = room[:count]
-            count -= self.content_into([str(piece.nbytes)], piece, piece.nbytes)
+            count -= self.content_into(piece.nbytes, piece, piece.nbytes)
             write(piece)
 
     def _call(self, call: Callable[..., Any], *words: Any) -> Any:
@@ -128,7 +121,7 @@ class Session:
         try:
             return call(*words)
         except OSError as fault:
-            raise fault if fault.errno is None else self._ended() from None
+            raise fault if fault.errno is None else Ended(self._end) from None
 
     def close(self) -> None:
         """Closes both ends."""

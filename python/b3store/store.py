@@ -9,9 +9,10 @@ import weakref
 from typing import Any, Callable, List, Optional, Tuple, TypeVar
 
 from .library import BOUND, NONE, PROGRESS, SEALED, SIZE, U64, WHY, Handle, Result, address_of, load, new_bytes, refusal_of
-from .sessions import PIECE_LEN, Session
-from .transfers import Transfers, Upload
-from .values import MAX_UPLOAD_LEN, PART_LEN, Buffer, Ended, Filed, Held, Refused, check_address, check_bytes, check_number, check_room
+from .sessions import READ_LEN, Session
+from .commands import Commands
+from .transfers import Upload
+from .values import MAX_UPLOAD_LEN, PART_LEN, Buffer, Filed, Held, Refused, check_address, check_bytes, check_number, check_room
 
 FUNCTIONS = (
     "b3store_begin", "b3store_begin_open", "b3store_close", "b3store_fetch", "b3store_file", "b3store_len", "b3store_lines", "b3store_open", "b3store_plan",
@@ -35,40 +36,39 @@ def loaded() -> Tuple[Any, Any]:
 class Lines(Session):
     """The lines of one turn, and their answers."""
 
-    def __init__(self, run: Callable[[bytes], Any]) -> None:
-        self._run, self._ended = run, Ended
+    def __init__(self, store: "Store") -> None:
+        self._store, self._end = store, "an answer is missing"
 
     def write(self, *pieces: Buffer) -> None:
         """Has the library run lines. Their answers are read next."""
-        self._reading = self._run(b"".join(pieces))
+        self._reading = io.BufferedReader(Answers(self._store, b"".join(pieces)), READ_LEN)
 
 
 class Answers(io.RawIOBase):
-    """Long answers to lines, which the library keeps until they are read."""
+    """Answers to lines, which the library keeps until they are read."""
 
-    def __init__(self, store: "Store", at: Any) -> None:
+    def __init__(self, store: "Store", lines: bytes) -> None:
         super().__init__()
-        self._store, self._handle, self._offset = store, at, 0
+        self._store, self._handle, self._offset = store, ctypes.byref(Handle()), 0
+        calls = store._library if lines.startswith(LONG) else store._small
+        store._call(calls.b3store_lines, lines, SIZE(len(lines)), self._handle, store._work_at)
 
     def readable(self) -> bool:
-        """True."""
         return True
 
     def readinto(self, room: Any) -> int:
-        """Reads into a buffer."""
         view = check_room(room)
         count = self._store._copy(self._handle, self._offset, view.nbytes, ctypes.c_void_p(address_of(view)))[1]
         self._offset += count
         return count
 
     def close(self) -> None:
-        """Frees the answers."""
         if not self.closed:
             self._store._small.b3store_close(self._handle)
         super().close()
 
 
-class Store(Transfers):
+class Store(Commands):
     """A store in the memory of this process. When it is closed, dropped, or the process ends, everything in it is lost.
 
         with Store() as store:
@@ -111,7 +111,7 @@ class Store(Transfers):
             return self._file_small(tenant, content if type(content) is bytes else view.tobytes())
         address = None if address is None else check_address(address)
         parts = (view[at : at + PART_LEN] for at in range(0, view.nbytes, PART_LEN))
-        return self._upload_parts(Upload(self, view.nbytes), tenant, None, parts, address, None)
+        return self._upload_parts(Upload(self, view.nbytes), tenant, None, parts, address)
 
     def _file_small(self, tenant: int, content: bytes) -> Filed:
         with self._lock:
@@ -213,21 +213,7 @@ class Store(Transfers):
                 raise refusal_of(answer, *self._why.read())
 
     def _in_turn(self, work: Callable[[Session], Value]) -> Value:
-        return work(Lines(self._run))
-
-    def _run(self, lines: bytes) -> Any:
-        """A file of the answers to lines."""
-        at, close, calls = ctypes.byref(Handle()), self._small.b3store_close, self._library if lines.startswith(LONG) else self._small
-        try:
-            self._call(calls.b3store_lines, lines, SIZE(len(lines)), at, self._work_at)
-            content, count = self._copy(at, 0, PIECE_LEN)
-            if count < PIECE_LEN:
-                return io.BytesIO(content)
-            answers, at = io.BufferedReader(Answers(self, at), PIECE_LEN), None
-            return answers
-        finally:
-            if at is not None:
-                close(at)
+        return work(Lines(self))
 
 
 opened: "weakref.WeakSet[Store]" = weakref.WeakSet()

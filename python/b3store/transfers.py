@@ -1,18 +1,17 @@
-"""Whole objects: uploads of any length, and objects as file objects."""
+"""Uploads of any length, and objects as file objects."""
 import io
 import itertools
 import operator
 import os
 import stat
-import sys
 from types import TracebackType
-from typing import Any, BinaryIO, Callable, Iterator, List, Optional, Type, Union
+from typing import Any, Iterator, List, Optional, Type
 
-from .commands import Commands
-from .redo import run_lines
-from .values import (
-    CHUNK_LEN, MAX_UPLOAD_LEN, PART_LEN, RANGE_LEN, Buffer, Ended, Filed, Held, Refused, check_address, check_bytes, check_number, check_room,
-)
+from . import TYPE_CHECKING
+from .values import PART_LEN, Buffer, Ended, Filed, Refused, check_address, check_bytes, check_room
+
+if TYPE_CHECKING:
+    from .commands import Commands
 
 PARTS_AT_ONCE = 4
 """How many parts are sent in one turn. Those of a file are read before, so that a slow one keeps no session from other threads."""
@@ -28,19 +27,15 @@ class Upload:
         with store.start_upload(tenant) as upload:
             upload.write(b"any number")
             upload.write(b"of bytes")
-        print(upload.filed.address)
+        print(upload.filed.address)"""
 
-    `write` adds bytes at the end. `put` adds parts at any offset instead; then `fix` is needed, unless the length was given or the last part is not a whole
-    number of chunks."""
-
-    def __init__(self, commands: "Transfers", length: Optional[int]) -> None:
+    def __init__(self, commands: "Commands", length: Optional[int]) -> None:
         self._commands, self._length = commands, length
         self.number = 0
         self.filed: Optional[Filed] = None
         """The object, once the upload is sealed."""
         self.is_open = False
         self._kept, self._sent = bytearray(), 0
-        self._has_put = False
         self._fault: Optional[BaseException] = None
         """Why a write failed, until that is raised again, or the upload is ended otherwise."""
 
@@ -70,11 +65,6 @@ class Upload:
                     raise
                 limit = refusal.value
 
-    def put(self, offset: int, part: Buffer) -> Held:
-        """Adds a part. Refusals: those of `Commands.put`."""
-        self._has_put = True
-        return self._commands.put(self.number, offset, part)
-
     def write(self, content: Buffer) -> int:
         """Adds bytes, any number of them, after those of earlier calls, and returns their number. If it can't send them, or is interrupted, the upload is
         aborted, and the end of the block raises the same again. Refusals: those of `Commands.put`. Raises ValueError if the upload isn't open."""
@@ -90,22 +80,16 @@ class Upload:
             raise
         return view.nbytes
 
-    def fix(self, length: int) -> None:
-        """Fixes the upload's end. Refusals: S7, S5, S15."""
-        length = check_number("length", length)
-        self._commands.fix(self.number, length)
-        self._length = length
-
     def seal(self, address: Optional[str] = None) -> Filed:
         """Files the upload as an object. If an address is given, content with another address is refused. After a refusal the upload is aborted.
-        Refusals: S7, S16, S10, S11, S6, and those of `Commands.put`, since the last bytes that were written are sent now."""
+        Refusals: S7, S10, S11, S6, and those of `Commands.put`, since the last bytes that were written are sent now."""
         address = None if address is None else check_address(address)
         try:
             if self._kept:
                 self._send_kept()
-            if self._length is None and not self._has_put:
-                self.fix(self._sent)
-            filed = self._commands._seal(self.number, address, self._length)
+            if self._length is None:
+                self._commands.fix(self.number, self._sent)
+            filed = self._commands._seal(self.number, address, self._sent if self._length is None else self._length)
         except BaseException:
             self._abort_quietly()
             self._fault = None
@@ -154,7 +138,7 @@ class Upload:
 class StoredObject(io.RawIOBase):
     """An object's bytes as a raw file object, which is read-only and seekable. Other commands can run between two reads."""
 
-    def __init__(self, commands: Commands, tenant: int, address: str) -> None:
+    def __init__(self, commands: "Commands", tenant: int, address: str) -> None:
         super().__init__()
         self._commands, self._tenant, self._at = commands, tenant, 0
         self.address = address
@@ -210,96 +194,6 @@ class StoredObject(io.RawIOBase):
             raise ValueError("the file is closed")
 
 
-class Transfers(Commands):
-    """The commands, with uploads of any length, and objects as file objects."""
-
-    def start_upload(self, tenant: int, length: Optional[int] = None, max_len: Optional[int] = None) -> Upload:
-        """Begins an upload, to be used in a `with` statement. If the length isn't known, `max_len` bytes are reserved until it is sealed, by default all
-        that the tenant has left, up to 1 TiB. Refusals: S1, S5, S6."""
-        if length is not None and max_len is not None:
-            raise ValueError("an upload has a length or a maximum length, not both")
-        upload = Upload(self, None if length is None else check_number("length", length))
-        upload._begin(tenant, max_len)
-        return upload
-
-    def upload(
-        self, content: Union[Buffer, BinaryIO], tenant: int, length: Optional[int] = None, *, address: Optional[str] = None,
-        max_len: Optional[int] = None, progress: Optional[Callable[[int], None]] = None,
-    ) -> Filed:
-        """Files content of any length: bytes, or a file object that is open for reading bytes, from its position on.
-
-        A file need not be seekable. Without a `length` it is read to its end, and a regular one of more than 4 MiB to the end that it had when so much
-        was read; with one, `length` bytes are read, and ValueError is raised if it ends earlier. If the length isn't known, `max_len` bytes are reserved:
-        by default as many as the file seems to have, or all that the tenant has left, up to 1 TiB. With an `address`, the content is filed only if that
-        is its address. `progress` is called with the number of bytes that were sent so far, unless there are at most PART_LEN, which are filed in one turn. If
-        anything is raised, the upload is aborted.
-
-        Refusals: S1, S5, S6; F4 for a file that is longer than what is reserved; S11."""
-        if address is not None:
-            check_address(address)
-        if length is not None:
-            length = check_number("length", length, 0, MAX_UPLOAD_LEN)
-        if max_len is not None:
-            max_len = check_number("max_len", max_len)
-        if progress is not None and not callable(progress):
-            raise TypeError(f"progress must be a function, not {type(progress).__name__}")
-        if is_file(content):
-            return self._upload_file(content, tenant, length, address, max_len, progress)
-        view = check_bytes(content)
-        if length is not None and length != view.nbytes:
-            raise ValueError(f"the content has {view.nbytes} bytes, and not {length}")
-        if view.nbytes <= PART_LEN:
-            return self.file(tenant, view, address)
-        parts = (view[at : at + PART_LEN] for at in range(0, view.nbytes, PART_LEN))
-        return self._upload_parts(Upload(self, view.nbytes), tenant, None, parts, address, progress)
-
-    def open(self, tenant: int, address: str, buffering: int = RANGE_LEN) -> Union[io.BufferedReader, StoredObject]:
-        """Opens an object as a file object for reading bytes, which can seek. `buffering` is the length of its buffer, 0 for none. Refusals: S1, S12."""
-        check_number("buffering", buffering, 0, sys.maxsize)
-        raw = StoredObject(self, tenant, check_address(address))
-        return io.BufferedReader(raw, buffering) if buffering else raw
-
-    def run_lines(self, lines: Union[Buffer, BinaryIO]) -> int:
-        """Runs lines that another store has returned for `redo`: bytes, or a file of them, from its start on, that can seek. This store must have run the lines
-        of all entries before. Returns how many bytes the lines have, without an incomplete one at the end, which isn't run. Raises LogError for the
-        first line that is wrong or refused; up to 39 after it may have been run. A `forget` that is refused with S12 has no effect: `redo` may return such
-        ones."""
-        return run_lines(self, lines)
-
-    def _upload_file(
-        self, file: Any, tenant: int, length: Optional[int], address: Optional[str], max_len: Optional[int], progress: Optional[Callable[[int], None]]
-    ) -> Filed:
-        rooms: List[memoryview] = []
-        first = read_parts(file, rooms, length)
-        count = sum(part.nbytes for part in first)
-        if max_len is None and (count < PARTS_AT_ONCE * PART_LEN or count == length):
-            check_length(count, length)
-            if count <= PART_LEN:
-                return self.file(tenant, first[0] if first else b"", address)
-            return self._upload_parts(Upload(self, count), tenant, None, iter(first), address, progress)
-        limit = length_of(file, count) if length is None else length
-        if max_len is None and limit is not None:
-            max_len = -(-limit // CHUNK_LEN) * CHUNK_LEN
-        parts = parts_of(file, rooms, first, limit, length)
-        return self._upload_parts(Upload(self, length), tenant, max_len, parts, address, progress, count)
-
-    def _upload_parts(
-        self, upload: Upload, tenant: int, max_len: Optional[int], parts: Iterator[memoryview], address: Optional[str],
-        progress: Optional[Callable[[int], None]], min_len: int = 0,
-    ) -> Filed:
-        """Files the content of some parts, by an upload that has not begun."""
-        with upload:
-            # here an interrupt can't come between the begin and the block that ends the upload
-            upload._begin(tenant, max_len, min_len)
-            while True:
-                batch = list(itertools.islice(parts, PARTS_AT_ONCE))
-                if not batch:
-                    return upload.seal(address)
-                upload._send(batch)
-                if progress is not None:
-                    progress(upload._sent)
-
-
 def is_file(content: Any) -> bool:
     """Whether content is a file object, and no buffer: an mmap is both, and used as a buffer."""
     try:
@@ -307,12 +201,6 @@ def is_file(content: Any) -> bool:
         return False
     except TypeError:
         return hasattr(content, "read")
-
-
-def check_length(count: int, length: Optional[int]) -> None:
-    """Raises ValueError if a file ended before the length that was given."""
-    if length is not None and count < length:
-        raise ValueError(f"the file ends after {count} of {length} bytes")
 
 
 def read_full(file: Any, room: memoryview) -> int:
@@ -342,38 +230,27 @@ def read_into(file: Any, view: memoryview) -> Optional[int]:
     return got.nbytes
 
 
-def read_parts(file: Any, rooms: List[memoryview], left: Optional[int]) -> List[memoryview]:
-    """Reads up to PARTS_AT_ONCE parts, up to `left` bytes in all, each into its own buffer, and returns them. Buffers are made when they are needed."""
-    parts: List[memoryview] = []
-    for number in range(PARTS_AT_ONCE):
-        if number == len(rooms):
-            rooms.append(memoryview(bytearray(PART_LEN if left is None else min(left, PART_LEN))))
-        room = rooms[number]
-        wanted = room if left is None else room[: max(0, left)]
-        count = read_full(file, wanted)
+def parts_of(file: Any, limit: Optional[int], length: Optional[int]) -> Iterator[memoryview]:
+    """Yields the parts of a file's remaining bytes, up to `limit` bytes in all. Raises ValueError if they are fewer than `length`. The memory of a part is used
+    again for the one PARTS_AT_ONCE later."""
+    rooms, at = [memoryview(bytearray(PART_LEN if limit is None else min(limit, PART_LEN)))], 0
+    for number in itertools.count(1):
+        room = rooms[-1] if limit is None else rooms[-1][: limit - at]
+        count = read_full(file, room)
+        at += count
         if count:
-            parts.append(room[:count])
-        if count < room.nbytes:
+            yield room[:count]
+        if count < PART_LEN or at == limit:
             break
-        left = None if left is None else left - count
-    return parts
+        rooms.append(memoryview(bytearray(PART_LEN)) if number < PARTS_AT_ONCE else rooms.pop(0))
+    if length is not None and at < length:
+        raise ValueError(f"the file ends after {at} of {length} bytes")
 
 
-def parts_of(file: Any, rooms: List[memoryview], first: List[memoryview], limit: Optional[int], length: Optional[int]) -> Iterator[memoryview]:
-    """Yields the parts that were read, and then those of the file's remaining bytes, up to `limit` bytes in all; raises ValueError if that is fewer
-    than `length`. The buffers are used again once a part was taken from each."""
-    parts, count = first, 0
-    while parts:
-        yield from parts
-        count += sum(part.nbytes for part in parts)
-        is_full = sum(part.nbytes for part in parts) == PARTS_AT_ONCE * PART_LEN
-        parts = read_parts(file, rooms, None if limit is None else limit - count) if is_full else []
-    check_length(count, length)
-
-
-def length_of(file: Any, count: int) -> Optional[int]:
-    """How many bytes a regular file has, from where its first `count` bytes were read on. None for any other file, such as one that decompresses another."""
+def length_of(file: Any) -> Optional[int]:
+    """How many bytes a regular file has from its position on, as far as it says so: those of the system say 0. None for any other file, such as one that
+    decompresses another."""
     if not isinstance(getattr(file, "raw", file), io.FileIO):
         return None
     status = os.fstat(file.fileno())
-    return max(0, status.st_size - file.tell()) + count if stat.S_ISREG(status.st_mode) else None
+    return max(0, status.st_size - file.tell()) if stat.S_ISREG(status.st_mode) and status.st_size else None

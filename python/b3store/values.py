@@ -1,4 +1,5 @@
 """The values of a store's commands: constants, errors, what commands return, and the checks of their arguments."""
+import functools
 import operator
 import os
 import re
@@ -28,8 +29,9 @@ RANGE_LEN = 1 << 18
 MAX_REDONE = 1 << 12
 """The maximum number of entries that one answer of `redo` is for."""
 
+FILED = "(new|known) A L"
+"""The form of an answer to a command that files an object."""
 ADDRESS = re.compile("[0-9a-fA-F]{64}")
-ANSWERED_ADDRESS = re.compile("[0-9a-f]{64}")
 
 REFUSALS = {
     "S1": "there is no such tenant",
@@ -179,13 +181,8 @@ def check_number(name: str, value: Any, min_value: int = 0, max_value: int = MAX
     except TypeError:
         raise TypeError(f"{name} must be an integer, not {type(value).__name__}") from None
     if not min_value <= number <= max_value:
-        raise ValueError(f"{name} must be from {min_value} to {max_value}, not {shortened(number)}")
+        raise ValueError(f"{name} must be from {min_value} to {max_value}")
     return number
-
-
-def shortened(value: int) -> str:
-    """The digits of an integer, if they are few: long ones can't be printed by every Python."""
-    return str(value) if abs(value) < 1 << 200 else f"a number of {value.bit_length()} bits"
 
 
 def check_address(value: Any) -> str:
@@ -215,80 +212,16 @@ def check_room(room: Any) -> memoryview:
     return view
 
 
-def parse_digits(text: str) -> int:
-    """The number that decimal digits are. Raises ValueError for anything else, also for what `int` would accept."""
-    if not (text.isdigit() and text.isascii() and len(text) <= MAX_DIGITS and int(text) <= MAX_NUMBER):
-        raise ValueError(f"{text[:30]!r} is not a number")
-    return int(text)
+@functools.lru_cache(maxsize=None)
+def pattern_of(form: str) -> "re.Pattern[str]":
+    """The pattern of an answer's form."""
+    return re.compile(form.replace("N", "([0-9]{1,20})").replace("L", "([0-9]{1,14})").replace("A", "([0-9a-f]{64})"))
 
 
-def parse_address(text: str) -> str:
-    """An address in an answer, which has small letters. Raises ValueError."""
-    if not ANSWERED_ADDRESS.fullmatch(text):
-        raise ValueError(f"{text[:100]!r} is not an address")
-    return text
-
-
-def parse_labelled(words: List[str], labels: List[str]) -> List[int]:
-    """Numbers with words between them, which must be these. Raises ValueError for others, and for words after the last number."""
-    if words[1::2] != labels:
-        raise ValueError(f"{' '.join(words)[:60]!r} has other words than {labels}")
-    return [*map(parse_digits, words[0::2])]
-
-
-def parse_refusal(words: List[str]) -> Refused:
-    """The error for the words after `refused`."""
-    if len(words) == 1:
-        return Refused(words[0])
-    number, label, value = words
-    return Refused(number, parse_address(value) if number == "S11" else parse_digits(value), label)
-
-
-def parse_number(words: List[str]) -> int:
-    """The number that an answer is."""
-    (number,) = words
-    return parse_digits(number)
-
-
-def parse_count(words: List[str], most: Optional[int]) -> int:
-    """The number that an answer is, which is at most this one."""
-    count = parse_number(words)
-    if most is not None and count > most:
-        raise ValueError(f"{count} instead of {most}")
-    return count
-
-
-def parse_length(words: List[str]) -> int:
-    """The length of an object."""
-    return parse_count(words, MAX_UPLOAD_LEN)
-
-
-def parse_asked(words: List[str], address: Optional[str] = None, length: Optional[int] = None) -> Filed:
-    """The answer to a seal, of an object that must have this address and this length. Raises ValueError."""
-    kind, found, count = words
-    filed = Filed(kind == "new", parse_address(found), parse_length([count]))
-    if address is not None and filed.address != address.lower() or length is not None and filed.length != length:
-        raise ValueError(f"{filed.address} of {filed.length} bytes was filed, not what was asked for")
-    return filed
-
-
-def parse_held(words: List[str]) -> Held:
-    """The answer to a part."""
-    if words[1:] == ["all"]:
-        return Held(parse_digits(words[0]), None)
-    return Held(*parse_labelled(words, ["missing"]))
-
-
-def parse_usage(numbers: List[str]) -> Usage:
-    """A tenant's bytes, from their digits."""
-    return Usage(*map(parse_digits, numbers))
-
-
-def parse_open_upload(number: str, bound: str, end: str, covered: str) -> OpenUpload:
-    """A row of the open uploads."""
-    return OpenUpload(parse_digits(number), parse_digits(bound), None if end == "-" else parse_digits(end), parse_digits(covered))
-
-
-def parse_object(address: str, length: str) -> ObjectRow:
-    """A row of a list of objects."""
-    return ObjectRow(parse_address(address), parse_length([length]))
+def parse(form: str, line: str) -> List[Any]:
+    """The values in a line of an answer, which has a form: a pattern in which N is for a number, L for an object's length, and A for an address. Raises
+    ValueError for any other line."""
+    found = pattern_of(form).fullmatch(line)
+    if not found:
+        raise ValueError(f"{line[:60]!r} has another form than {form!r}")
+    return [int(text) if text and text.isdigit() and len(text) <= MAX_DIGITS else text for text in found.groups()]

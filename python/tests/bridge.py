@@ -1,5 +1,6 @@
 """A server that runs, and stores for cases that hold for a client and for a store in this process."""
 import contextlib
+import functools
 import os
 import subprocess
 import sys
@@ -45,11 +46,11 @@ def client_of_a_server(sessions=1):
 
 def over_both(case):
     """A case of a store in this process, and of a client."""
+
+    @functools.wraps(case)
     def run():
-        found = []
         for make in Store, client_of_a_server:
             with make() as store:
-                found += [f"{make.__name__}: {fault}" for fault in case(store)]
-        return found
+                case(store)
 
     return run

@@ -9,7 +9,7 @@ import sys
 import tempfile
 import timeit
 
-from shared import ABC, EMPTY, differences, in_threads, raised
+from shared import ABC, EMPTY, check, in_threads, raised
 from judging import judged
 
 LENGTHS = (0, 1, 63, 64, 65, 1023, 1024, 1025, 4095, 4096, 4097, 10000, 1 << 20, (1 << 20) + 1, 3 << 20, (5 << 20) + 77)
@@ -28,7 +28,7 @@ def equal_ways():
     """However bytes are given, their hash is the same."""
     from b3store.hashing import blake3, file_digest
 
-    found = differences((blake3(b"abc").hexdigest(), ABC), (blake3().hexdigest(), EMPTY), (blake3(key=KEY).hexdigest(), KEYED))
+    check((blake3(b"abc").hexdigest(), ABC), (blake3().hexdigest(), EMPTY), (blake3(key=KEY).hexdigest(), KEYED))
     with tempfile.TemporaryDirectory() as place:
         for length in LENGTHS:
             content, path = content_of(length), os.path.join(place, "file")
@@ -42,31 +42,28 @@ def equal_ways():
                 files = [file_digest(file), file_digest(raw), file_digest(io.BytesIO(content)), file_digest(later)]
             ways = [hasher.digest(), blake3(bytearray(content)).digest(), blake3(memoryview(content)).digest()]
             wrong = [at for at, way in enumerate([*ways, *files[:3]]) if way != digest]
-            found += differences(((length, wrong), (length, [])), (files[3], blake3(content[1:]).digest()))
+            check(((length, wrong), (length, [])), (files[3], blake3(content[1:]).digest()))
             long = blake3(content, context="context").digest(100)
-            found += differences((blake3(content, context="context").digest(30, position=70), long[70:]), (hasher.digest(0), b""))
+            check((blake3(content, context="context").digest(30, position=70), long[70:]), (hasher.digest(0), b""))
             with gzip.open(path, "wb", 0) as file:
                 file.write(content)
             with gzip.open(path) as file:
-                found += differences((file_digest(file), digest))
-    return found
+                check((file_digest(file), digest))
 
 
 def copies():
     """A copy goes its own way, whether the bytes so far are few or many."""
     from b3store.hashing import blake3
 
-    found = []
     for length in 0, 10, 4096, 5000:
         first = blake3(content_of(length), key=KEY)
         second, third = first.copy(), copy.copy(first)
         second.update(b"more")
         wanted = blake3(content_of(length) + b"more", key=KEY).digest()
-        found += differences((second.digest(), wanted), (first.digest(), blake3(content_of(length), key=KEY).digest()))
+        check((second.digest(), wanted), (first.digest(), blake3(content_of(length), key=KEY).digest()))
         first.update(memoryview(b"more"))
         third.update(b"other")
-        found += differences((first.digest(), wanted), (first.hexdigest(), wanted.hex()), (third.digest(), blake3(content_of(length) + b"other", key=KEY).digest()))
-    return found
+        check((first.digest(), wanted), (first.hexdigest(), wanted.hex()), (third.digest(), blake3(content_of(length) + b"other", key=KEY).digest()))
 
 
 def wrong_values():
@@ -81,7 +78,7 @@ def wrong_values():
     calls += [(ValueError, lambda: hasher.digest(1 << 63)), (ValueError, lambda: blake3(bytes(5000)).digest((1 << 64) - 1)), (TypeError, lambda: file_digest("name"))]
     calls += [(None, lambda: blake3().digest(position=type("Number", (), {"__index__": lambda _: 5})()))]
     calls += [(ValueError, lambda: hasher.digest(5, position=-1)), (ValueError, lambda: hasher.digest(5, position=1 << 64)), (ValueError, lambda: hasher.digest(2, position=(1 << 64) - 2))]
-    return differences(*((raised(call), wanted) for wanted, call in calls), (hasher.hexdigest(), ABC))
+    check(*((raised(call), wanted) for wanted, call in calls), (hasher.hexdigest(), ABC))
 
 
 def files_without_bytes():
@@ -92,10 +89,10 @@ def files_without_bytes():
     os.set_blocking(reading, False)
     with os.fdopen(reading, "rb", buffering=0) as file, os.fdopen(writing, "wb", buffering=0) as other:
         other.write(b"abc")
-        found = differences((raised(file_digest, file), BlockingIOError))
+        check((raised(file_digest, file), BlockingIOError))
         other.write(b"abc")
         other.close()
-        return found + differences((file_digest(file).hex(), ABC))
+        check((file_digest(file).hex(), ABC))
 
 
 def small_calls():
@@ -109,13 +106,10 @@ def small_calls():
 
     times = [[timeit.timeit(lambda: call(b"abc").digest(), number=1000) for call in (blake3, hashlib.blake2s)] for _ in range(15)]
     ours, others = map(min, zip(*times))
-    return differences((in_threads(work, 4), [True] * 4)) + ([] if ours < MAX_SMALL_CALL * others else [f"a small call takes {ours * 1e3:.1f} us, of hashlib {others * 1e3:.1f}"])
+    check((in_threads(work, 4), [True] * 4), ((ours, others, ours < MAX_SMALL_CALL * others), (ours, others, True)))
 
 
-CASES = (
-    ("hashes of bytes given in many ways", equal_ways), ("copies of hashers", copies), ("wrong values for hashers", wrong_values), ("small calls of hashers", small_calls),
-    ("hashes of files without bytes", files_without_bytes),
-)
+CASES = (equal_ways, copies, wrong_values, small_calls, files_without_bytes)
 
 if __name__ == "__main__":
-    sys.exit(judged(CASES))
+    sys.exit(judged((case.__name__, case) for case in CASES))

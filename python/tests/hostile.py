@@ -15,8 +15,8 @@ import warnings
 
 from served import server_of
 from bridge import SESSIONS, Bridge, client_of_a_server, over_both
-from shared import ABC, FOUR, SECONDS, TOP, differences, ended, raised, wait_until
-from b3store import MAX_UPLOAD_LEN, AsyncStore, Client, Ended, Store
+from shared import ABC, FOUR, SECONDS, TOP, check, ended, raised, wait_until
+from b3store import AsyncStore, Client, Store
 from b3store.sessions import MAX_LINE_LEN, Session
 
 
@@ -30,35 +30,47 @@ class Number:
         return self._number
 
 
+WRONG_ANSWERS = (
+    "frob", "tenant", "tenant x", "refused", "refused S6 free x", "refused S6 free", "", "held 3", "tenant -1", "tenant +1", "tenant 1_0", "tenant 1\r",
+    "refused S11 found x", "tenant 0 1", f"tenant {10 ** 20}", "x" * MAX_LINE_LEN,
+)
+"""Lines that are no answer to `tenant`."""
+LINE = ABC.encode()
+LIES = (
+    *(([answer.encode() + b"\n"], lambda store: store.tenant()) for answer in WRONG_ANSWERS),
+    *(
+        ([text], call)
+        for text in (b"bytes 6\nabcdef", b"bytes -1\nabc", b"bytes 99999999999999999999999\nabc", b"bytes\n", b"bytes 5\nabc")
+        for call in (lambda store: store.fetch(0, ABC, 0, 5), lambda store: store.fetch_into(0, ABC, bytearray(5)))
+    ),
+    ([b"has 100\n", b"bytes 10\n0123456789"], lambda store: store.open(0, ABC).read()),
+    ([b"has 3\n", b"bytes 2\nab"], lambda store: store.open(0, ABC, 0).readinto(bytearray(9))),
+    ([b"objects 1 1\nfoo\n"], lambda store: store.objects(0)), ([b"objects 1 1\n%s 3 3\n" % LINE], lambda store: store.objects(0)),
+    ([b"list 1\n%s 3\n" % LINE.upper()], lambda store: store.list(0)), ([b"list 1\n%s %d\n" % (LINE, 10 ** 14)], lambda store: store.list(0)),
+    ([b"refused S11 address %s\n" % LINE.upper()], lambda store: store.seal_as(0, FOUR)), ([b"new %s 3\n" % FOUR.encode()], lambda store: store.file(0, b"abc", ABC)),
+    ([b"new %s 4\n" % LINE], lambda store: store.file(0, b"abc")), ([b"new %s 3\n" % FOUR.encode()], lambda store: store.seal_as(0, ABC)),
+    ([b"upload 0\n", b"held 3 all\n", b"new %s 4\n" % LINE], lambda store: writes(store, b"abc")),
+    ([b"upload 0\n", b"held 3 all\n", b"new %s 4\n" % LINE], lambda store: writes(store, b"abc", ABC)),
+    ([b"bytes %d\n" % (1 << 63)], lambda store: store.fetch(0, ABC, 0, (1 << 64) - 1)), ([b"ok but\n"], lambda store: store.abort(0)),
+    ([b"has 3 or more\n"], lambda store: store.size(0, ABC)), ([b"has %d\n" % 10 ** 14], lambda store: store.open(0, ABC)),
+    ([b"held 3 of 5\n"], lambda store: store.put(0, 0, b"abc")), ([b"held 3 missing 5 6\n"], lambda store: store.put(0, 0, b"abc")),
+    ([b"used 1 limit 2 reserved 3\n"], lambda store: store.usage(0)), ([b"objects 1 bytes 2 uploads 3 held 4 parts 5 at\n"], lambda store: store.stat()),
+    ([b"objects 1 bytes 2 uploads 3 parts 4 held 5\n"], lambda store: store.stat()),
+    ([b"journal 3\na\nb\nc\n"], lambda store: store.entries(0, 2)), ([b"journal 3\na\nb\nc\n"], lambda store: list(store.journal(0, 2))),
+)
+"""Answers that no store gives, and the call that gets them."""
+
+
 def answers_that_lie():
-    """Each is noticed at once, and ends the connection."""
-    found, begun = [], b"upload 0\n"
-    cases = (
-        ([b"has 100\n", b"bytes 10\n0123456789"], lambda store: store.open(0, ABC).read()),
-        ([b"has 3\n", b"bytes 2\nab"], lambda store: store.open(0, ABC, 0).readinto(bytearray(9))),
-        ([b"objects 1 1\nfoo\n"], lambda store: store.objects(0)),
-        ([b"objects 1 1\n%s 3 3\n" % ABC.encode()], lambda store: store.objects(0)),
-        ([b"list 1\n%s 3\n" % ABC.upper().encode()], lambda store: store.list(0)),
-        ([b"list 2\n%s 3\n%s 3\n" % (ABC.encode(), ABC.encode())], lambda store: store.list(0)),
-        ([b"tenants 2\n0 1 0 2\n0 1 0 2\n"], lambda store: store.tenants()),
-        ([b"refused S11 address %s\n" % ABC.upper().encode()], lambda store: store.seal_as(0, FOUR)),
-        ([b"new %s 3\n" % FOUR.encode()], lambda store: store.file(0, b"abc", ABC)),
-        ([b"new %s 4\n" % ABC.encode()], lambda store: store.file(0, b"abc")),
-        ([b"new %s 3\n" % FOUR.encode()], lambda store: store.seal_as(0, ABC)),
-        ([begun, b"held 3 all\n", b"new %s 4\n" % ABC.encode()], lambda store: writes(store, b"abc")),
-        ([begun, b"held 3 all\n", b"new %s 4\n" % ABC.encode()], lambda store: writes(store, b"abc", ABC)),
-        ([b"x" * MAX_LINE_LEN], lambda store: store.stat()),
-        ([b"bytes %d\n" % (1 << 63)], lambda store: store.fetch(0, ABC, 0, (1 << 64) - 1)),
-    )
-    for answers, call in cases:
+    """Each is noticed at once, and ends the connection: that call raises Ended, and so does every later one."""
+    for answers, call in LIES:
         with server_of(*answers) as path, Client(path) as store:
             told = ended(call, store)
-            found += differences((told is not None and "makes no sense" in told, True), (store.alive, False), (ended(store.stat), told))
+            check(((answers, told is None), (answers, False)), (store.alive, False), (ended(store.stat), told))
     ours, theirs = socket.socketpair()
     with ours, theirs:
-        session = Session(ours, ours.makefile("rb"), Ended)
-        found += differences((session.is_at_rest(), True), (theirs.send(b"busy\n"), 5), (session.is_at_rest(), False))
-    return found
+        session = Session(ours, ours.makefile("rb"), "it has ended")
+        check((session.is_at_rest(), True), (theirs.send(b"busy\n"), 5), (session.is_at_rest(), False))
 
 
 def writes(store, content, address=None):
@@ -66,24 +78,6 @@ def writes(store, content, address=None):
     upload = store.start_upload(0, len(content))
     upload.write(content)
     upload.seal(address)
-
-
-def answers_with_more():
-    """Words that belong to no answer, and numbers that no store has."""
-    found = []
-    cases = (
-        (b"tenant 0 1\n", lambda store: store.tenant()), (b"ok but\n", lambda store: store.abort(0)), (b"has 3 or more\n", lambda store: store.size(0, ABC)),
-        (b"held 3 of 5\n", lambda store: store.put(0, 0, b"abc")), (b"held 3 missing 5 6\n", lambda store: store.put(0, 0, b"abc")),
-        (b"used 1 limit 2 reserved 3\n", lambda store: store.usage(0)), (b"objects 1 bytes 2 uploads 3 held 4 parts 5 at\n", lambda store: store.stat()),
-        (b"objects 1 bytes 2 uploads 3 parts 4 held 5\n", lambda store: store.stat()), (b"tenant %d\n" % (1 << 64), lambda store: store.tenant()),
-        (b"journal 3\na\nb\nc\n", lambda store: store.entries(0, 2)),
-        (b"journal 3\na\nb\nc\n", lambda store: list(store.journal(0, 2))), (b"has %d\n" % (MAX_UPLOAD_LEN + 1), lambda store: store.open(0, ABC)),
-        (b"list 1\n%s %d\n" % (ABC.encode(), MAX_UPLOAD_LEN + 1), lambda store: store.list(0)),
-    )
-    for answer, call in cases:
-        with server_of(answer) as path, Client(path) as store:
-            found += differences(((answer, raised(call, store)), (answer, Ended)), ((answer, store.alive), (answer, False)))
-    return found
 
 
 def gets_that_fail():
@@ -95,18 +89,18 @@ def gets_that_fail():
         words = [sys.executable, "-m", "b3store", "--socket", path, "get", "--tenant", "0", ABC, "-o", file]
         ran = subprocess.run(words, cwd=os.path.join(TOP, "python"), stdout=subprocess.PIPE, stderr=subprocess.PIPE, timeout=SECONDS)
         with open(file, "rb") as old:
-            found = differences((old.read(), b"old"), (os.listdir(place), ["file"]))
-        return found + differences((ran.returncode, 3), (b"makes no sense" in ran.stderr, True))
+            check((old.read(), b"old"), (os.listdir(place), ["file"]))
+        check((ran.returncode, 3), (b"makes no sense" in ran.stderr, True))
 
 
 def gets_that_are_ended():
     """A signal leaves no part of a file, also if a second one comes while it is removed, and of a background job, which Ctrl-C doesn't reach."""
-    found, twice = [], "import os, runpy; unlink, kill = os.unlink, os.kill; os.unlink = lambda name: (kill(os.getpid(), %d), unlink(name)); "
+    twice = "import os, runpy; unlink, kill = os.unlink, os.kill; os.unlink = lambda name: (kill(os.getpid(), %d), unlink(name)); "
     run = "runpy.run_module('b3store', run_name='__main__', alter_sys=True)"
     for number in signal.SIGTERM, signal.SIGHUP, signal.SIGINT:
         for python in (["-m", "b3store"], *(["-c", twice % second + run] for second in (signal.SIGINT, signal.SIGTERM))):
-            found += ended_get(python, number, listen_to_signals)
-    return found + ended_get(["-m", "b3store"], signal.SIGTERM, work_in_the_background)
+            ended_get(python, number, listen_to_signals)
+    ended_get(["-m", "b3store"], signal.SIGTERM, work_in_the_background)
 
 
 def ended_get(python, number, prepare):
@@ -114,9 +108,9 @@ def ended_get(python, number, prepare):
     with server_of(b"has 3\n", None) as path, tempfile.TemporaryDirectory() as place:
         words = [sys.executable, *python, "--socket", path, "get", "--tenant", "0", ABC, "-o", os.path.join(place, "file")]
         with subprocess.Popen(words, cwd=os.path.join(TOP, "python"), stdout=subprocess.PIPE, stderr=subprocess.PIPE, preexec_fn=prepare) as get:
-            found = differences((wait_until(lambda: os.listdir(place)), True))
+            check((wait_until(lambda: os.listdir(place)), True))
             get.send_signal(number)
-            return found + differences((get.communicate(timeout=SECONDS), (b"", b"")), (get.returncode, 128 + number), (os.listdir(place), []))
+            check((get.communicate(timeout=SECONDS), (b"", b"")), (get.returncode, 128 + number), (os.listdir(place), []))
 
 
 def work_in_the_background():
@@ -144,14 +138,13 @@ def processes_that_inherit():
                 os._exit(0)
         os.close(writing)
         with open(reading, "rb") as told:
-            found = differences((b"belongs to the process that opened it" in told.read(), True))
+            check((b"belongs to the process that opened it" in told.read(), True))
         os.waitpid(child, 0)
-        return found + differences((store.upload(b"abc", tenant).address, ABC), (store.alive, True))
+        check((store.upload(b"abc", tenant).address, ABC), (store.alive, True))
 
 
 def closes_beside_a_fork():
     """What a process closes ends although a new process lives, which in turn waits for no thread of its parent."""
-    found = []
     with Bridge() as server:
         for count in 1, SESSIONS:
             store = Client(server.path, sessions=count)
@@ -161,38 +154,25 @@ def closes_beside_a_fork():
                 closing = threading.Thread(target=store.close, daemon=True)
                 closing.start()
                 closing.join(SECONDS / 2)
-                found += differences((told, b"ok"), (closing.is_alive(), False))
+                check((told, b"ok"), (closing.is_alive(), False))
                 with Client(server.path, sessions=SESSIONS) as other:
-                    found += differences((other.alive, True))
-    return found
+                    check((other.alive, True))
 
 
-def closes_beside_a_reading_thread():
-    """A new process also closes a store from which a thread of its parent was reading."""
-    with server_of(None) as path:
-        store = Client(path)
-        reader = threading.Thread(target=ended, args=(store.stat,), daemon=True)
-        reader.start()
-        time.sleep(0.2)
-        with closed_in_a_fork(store) as told:
-            found = differences((told, b"ok"), (reader.is_alive(), True))
-    reader.join(SECONDS / 2)
-    return found + differences((reader.is_alive(), False))
-
-
-def closes_beside_a_close():
-    """A new process also closes a store that a thread of its parent was closing."""
-    with server_of(None) as path:
-        store = Client(path)
-        taken = store._free.get()
-        closing = threading.Thread(target=store.close, daemon=True)
-        closing.start()
-        time.sleep(0.2)
-        with closed_in_a_fork(store) as told:
-            found = differences((told, b"ok"), (closing.is_alive(), True))
-        store._free.put(taken)
-        closing.join(SECONDS / 2)
-        return found + differences((closing.is_alive(), False))
+def closes_beside_a_thread():
+    """A new process also closes a client from which a thread of its parent reads, or which one was closing."""
+    for is_taken, work in (False, lambda store: ended(store.stat)), (True, Client.close):
+        with server_of(None) as path:
+            store = Client(path)
+            taken = [store._free.get()] if is_taken else []
+            thread = threading.Thread(target=work, args=(store,), daemon=True)
+            thread.start()
+            time.sleep(0.2)
+            with closed_in_a_fork(store) as told:
+                check((told, b"ok"), (thread.is_alive(), True))
+            store._give_back(taken)
+        thread.join(SECONDS / 2)
+        check((thread.is_alive(), False))
 
 
 @contextlib.contextmanager
@@ -225,7 +205,7 @@ def close_and_wait(store, going):
 def stores_that_are_dropped():
     """A store that is not closed keeps no descriptor once nothing has it, without a search for cycles of objects."""
     with server_of(b"tenant 0\n") as path, server_of(b"tenant x\n") as other:
-        found, makes = [], (
+        makes = (
             lambda: Client(path, sessions=2).alive, lambda: raised(Client(path).stat), lambda: raised(Client(other).tenant),
         )
         gc.collect()
@@ -237,10 +217,9 @@ def stores_that_are_dropped():
                     warnings.simplefilter("ignore", ResourceWarning)
                     make()
                 # the server has an end of each connection, too
-                found += differences((wait_until(lambda before=before: len(os.listdir("/proc/self/fd")) <= before, SECONDS / 4), True))
+                check((wait_until(lambda before=before: len(os.listdir("/proc/self/fd")) <= before, SECONDS / 4), True))
         finally:
             gc.enable()
-        return found
 
 
 class Interrupted:
@@ -264,16 +243,16 @@ def closes_that_are_interrupted():
         store = Client(path, sessions=3)
         free, taken = store._free, store._free.get()
         store._free = Interrupted(free)
-        found = differences((raised(store.close), InterruptedError))
+        check((raised(store.close), InterruptedError))
         store._free = free
         free.put(taken)
         closing = threading.Thread(target=store.close, daemon=True)
         closing.start()
         closing.join(SECONDS / 2)
-        return found + differences((closing.is_alive(), False), (store.alive, False))
+        check((closing.is_alive(), False), (store.alive, False))
 
 
-async def close_beside_a_pipe():
+async def _close_beside_a_pipe():
     """Closes a store while a thread of it reads a pipe, whose other end belongs to the same loop."""
     reading, writing = os.pipe()
     with open(reading, "rb", buffering=0) as source, open(writing, "wb", buffering=0) as target:
@@ -284,12 +263,16 @@ async def close_beside_a_pipe():
         rescue.start()
         closing = asyncio.ensure_future(store.close())
         await asyncio.sleep(0.2)
-        found = differences((target.closed, False))
+        check((target.closed, False))
         target.close()
         await closing
         rescue.cancel()
         results = await asyncio.gather(upload, store.stat(), return_exceptions=True)
-        return found + differences(([type(result) for result in results], [ValueError, ValueError]))
+        check(([type(result) for result in results], [ValueError, ValueError]))
+
+
+def stores_for_asyncio_that_are_closed():
+    asyncio.run(_close_beside_a_pipe())
 
 
 @over_both
@@ -301,26 +284,9 @@ def odd_numbers(store):
         file.write(content)
         file.seek(0)
         address = store.upload(file, Number(tenant), Number(5000)).address
-        found = differences((b"".join(store.ranges(tenant, address, Number(2000))) == content, True))
+        check((b"".join(store.ranges(tenant, address, Number(2000))) == content, True))
         with store.start_upload(tenant, Number(5000)) as upload:
             store.put(upload.number, Number(0), content)
-        found += differences((upload.filed.address, address))
+        check((upload.filed.address, address))
         with store.open(tenant, address, 0) as stored:
-            found += differences((raised(stored.readinto, b"abc"), TypeError), (raised(stored.seek, 1.5), TypeError), (stored.seek(Number(7)), 7))
-        return found
-
-
-CASES = (
-    ("answers that lie", answers_that_lie),
-    ("answers with more", answers_with_more),
-    ("gets that fail", gets_that_fail),
-    ("gets that are ended", gets_that_are_ended),
-    ("processes that inherit a store", processes_that_inherit),
-    ("stores that are dropped", stores_that_are_dropped),
-    ("closes beside a fork", closes_beside_a_fork),
-    ("closes beside a thread that reads", closes_beside_a_reading_thread),
-    ("closes beside a close", closes_beside_a_close),
-    ("closes that are interrupted", closes_that_are_interrupted),
-    ("a store for asyncio that is closed", lambda: asyncio.run(close_beside_a_pipe())),
-    ("odd numbers", odd_numbers),
-)
+            check((raised(stored.readinto, b"abc"), TypeError), (raised(stored.seek, 1.5), TypeError), (stored.seek(Number(7)), 7))

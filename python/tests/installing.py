@@ -6,7 +6,7 @@ import subprocess
 import sys
 import tempfile
 
-from shared import SECONDS, TOP, differences, raised
+from shared import SECONDS, TOP, check, raised
 import b3store
 from b3store import library, store
 
@@ -27,20 +27,20 @@ def installs():
             return [ran.stderr.decode()[-500:]]
         names = [name for name in os.listdir(os.path.join(source, "b3store")) if name.endswith(".py") or name == "py.typed"]
         wanted = sorted([*names, library.FILE])
-        found = differences((sorted(name for name in os.listdir(os.path.join(target, "b3store")) if name != "__pycache__"), wanted), (sorted(os.listdir(source)), before))
-        found += differences((os.path.isdir(os.path.join(target, f"b3store-{b3store.__version__}.dist-info")), True))
+        check((sorted(name for name in os.listdir(os.path.join(target, "b3store")) if name != "__pycache__"), wanted), (sorted(os.listdir(source)), before))
+        check((os.path.isdir(os.path.join(target, f"b3store-{b3store.__version__}.dist-info")), True))
         program = os.path.join(target, "bin", "b3store-client")
         ran = subprocess.run([sys.executable, program, "--help"], capture_output=True, timeout=SECONDS, env={**environment, "PYTHONPATH": target})
-        found += differences((ran.returncode, 0), (ran.stdout[:20], b"usage: b3store-clien"))
+        check((ran.returncode, 0), (ran.stdout[:20], b"usage: b3store-clien"))
         environment.pop("B3STORE_LIBRARY", None)
         words = "import b3store; print(b3store.Store().tenant(), b3store.store.loaded()[0]._name)"
         ran = subprocess.run([sys.executable, "-c", words], capture_output=True, timeout=SECONDS, env={**environment, "PYTHONPATH": target})
-        return found + differences((ran.stdout.decode(), f"0 {os.path.realpath(target)}/b3store/{library.FILE}\n"), (ran.stderr, b""))
+        check((ran.stdout.decode(), f"0 {os.path.realpath(target)}/b3store/{library.FILE}\n"), (ran.stderr, b""))
 
 
 def names():
     """All that the package offers is there, and what isn't raises as usual."""
-    return differences(([name for name in b3store.__all__ if not hasattr(b3store, name)], []), (raised(lambda: b3store.frob), AttributeError))
+    check(([name for name in b3store.__all__ if not hasattr(b3store, name)], []), (raised(lambda: b3store.frob), AttributeError))
 
 
 def without_library():
@@ -53,12 +53,12 @@ def without_library():
             return [ran.stderr.decode()]
     environment["B3STORE_LIBRARY"] = "libc.so.6"
     ran = subprocess.run([sys.executable, "-c", "import b3store.hashing"], capture_output=True, timeout=SECONDS, env=environment)
-    return differences((ran.returncode, 1), (ran.stderr.endswith(told), True))
+    check((ran.returncode, 1), (ran.stderr.endswith(told), True))
 
 
 def places_of_the_library():
     """It is found in the package, below the package's prefix, at the level of the processors, and in a clone; not where another user could put one."""
-    found, program = [], "from b3store import library; print(library.load(['b3store_open'])[0]._name)"
+    program = "from b3store import library; print(library.load(['b3store_open'])[0]._name)"
     environment = {name: value for name, value in os.environ.items() if name != "B3STORE_LIBRARY"}
     for folder, others in PLACES:
         with tempfile.TemporaryDirectory() as place:
@@ -74,11 +74,10 @@ def places_of_the_library():
                 if not is_usable:
                     continue
                 ran = subprocess.run([sys.executable, "-c", program], capture_output=True, timeout=SECONDS, env={**environment, "PYTHONPATH": os.path.dirname(package)})
-                found += differences(((folder, at, ran.stdout.decode()), (folder, at, os.path.realpath(os.path.dirname(path)) + f"/{library.FILE}\n")))
+                check(((folder, at, ran.stdout.decode()), (folder, at, os.path.realpath(os.path.dirname(path)) + f"/{library.FILE}\n")))
             if "tmp" in folder:
                 ran = subprocess.run([sys.executable, "-c", program], capture_output=True, timeout=SECONDS, env={**environment, "PYTHONPATH": os.path.dirname(package)})
-                found += differences((place in ran.stdout.decode(), False))
-    return found
+                check((place in ran.stdout.decode(), False))
 
 
 PLACES = (

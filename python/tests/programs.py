@@ -10,7 +10,7 @@ import time
 
 from bridge import Bridge
 from hostile import listen_to_signals
-from shared import ABC, EMPTY, FOUR, SECONDS, TOP, differences, wait_until
+from shared import ABC, EMPTY, FOUR, SECONDS, TOP, check, wait_until
 from served import server_of
 from transfers import PART_LEN, content_of
 import b3store
@@ -38,40 +38,40 @@ def puts_and_gets():
                 file.write(inside)
         status, out, err = client("put", odd, large)
         lines = out.decode().splitlines()
-        found = differences((status, 0), (err, ""), (lines[0], "\\" + ABC + "  " + odd.replace("\\", "\\\\")), (lines[1][64:], "  " + large))
+        check((status, 0), (err, ""), (lines[0], "\\" + ABC + "  " + odd.replace("\\", "\\\\")), (lines[1][64:], "  " + large))
         address = lines[1][:64]
-        found += differences((client("put", "-", data=b"four"), (0, f"{FOUR}  -\n".encode(), "")), (client("put", "-"), (0, f"{EMPTY}  -\n".encode(), "")))
-        found += differences((client("get", address) == (0, content, ""), True), (client("get", ABC.upper(), "--range", "1:1"), (0, b"b", "")))
-        found += differences((client("get", ABC, "--range", "1:"), (0, b"bc", "")), (client("get", ABC, "--range", "7:5"), (0, b"", "")), (client("get", EMPTY), (0, b"", "")))
+        check((client("put", "-", data=b"four"), (0, f"{FOUR}  -\n".encode(), "")), (client("put", "-"), (0, f"{EMPTY}  -\n".encode(), "")))
+        check((client("get", address) == (0, content, ""), True), (client("get", ABC.upper(), "--range", "1:1"), (0, b"b", "")))
+        check((client("get", ABC, "--range", "1:"), (0, b"bc", "")), (client("get", ABC, "--range", "7:5"), (0, b"", "")), (client("get", EMPTY), (0, b"", "")))
         copy = os.path.join(place, "copy")
-        found += differences((client("get", address, "-o", copy), (0, b"", "")), (open(copy, "rb").read() == content, True))
-        found += differences((client("get", ABC, "--output", copy), (0, b"", "")), (open(copy, "rb").read(), b"abc"), (client("get", ABC, "-o", "/dev/null"), (0, b"", "")), (client("get", ABC, "-o", "-"), (0, b"abc", "")))
+        check((client("get", address, "-o", copy), (0, b"", "")), (open(copy, "rb").read() == content, True))
+        check((client("get", ABC, "--output", copy), (0, b"", "")), (open(copy, "rb").read(), b"abc"), (client("get", ABC, "-o", "/dev/null"), (0, b"", "")), (client("get", ABC, "-o", "-"), (0, b"abc", "")))
         os.chmod(copy, 0o640)
         # only root can give a file to others
         owner = (1234, 5678) if os.geteuid() == 0 else (os.geteuid(), os.getegid())
         os.chown(copy, *owner)
-        found += differences((client("get", FOUR, "-o", copy), (0, b"", "")), (stat.S_IMODE(os.stat(copy).st_mode), 0o640))
-        found += differences(((os.stat(copy).st_uid, os.stat(copy).st_gid), owner))
+        check((client("get", FOUR, "-o", copy), (0, b"", "")), (stat.S_IMODE(os.stat(copy).st_mode), 0o640))
+        check(((os.stat(copy).st_uid, os.stat(copy).st_gid), owner))
         os.remove(copy)
-        found += differences((client("get", FOUR, "-o", copy), (0, b"", "")), (stat.S_IMODE(os.stat(copy).st_mode), stat.S_IMODE(os.stat(odd).st_mode)))
+        check((client("get", FOUR, "-o", copy), (0, b"", "")), (stat.S_IMODE(os.stat(copy).st_mode), stat.S_IMODE(os.stat(odd).st_mode)))
         nowhere = os.path.join(place, "none", "copy")
-        found += differences((client("get", ABC, "-o", nowhere), (3, b"", f"b3store: {nowhere}: no such file or directory\n")))
-        found += differences((client("get", ABC, "-o", ""), (3, b"", "b3store: '': no such file or directory\n")))
-        found += differences((client("has", ABC), (0, f"{ABC} 3\n".encode(), "")), (client("has", "0" * 64, ABC), (1, f"{ABC} 3\n".encode(), "")))
+        check((client("get", ABC, "-o", nowhere), (3, b"", f"b3store: {nowhere}: no such file or directory\n")))
+        check((client("get", ABC, "-o", ""), (3, b"", "b3store: '': no such file or directory\n")))
+        check((client("has", ABC), (0, f"{ABC} 3\n".encode(), "")), (client("has", "0" * 64, ABC), (1, f"{ABC} 3\n".encode(), "")))
         rows = f"{ABC} 3\n{address} {len(content)}\n{FOUR} 4\n{EMPTY} 0\n"
-        found += differences((client("ls"), (0, rows.encode(), "")), (client("rm", FOUR, EMPTY), (0, b"", "")), (client("ls", "--tenant", "0"), (0, rows[: -67 - 67].encode(), "")))
+        check((client("ls"), (0, rows.encode(), "")), (client("rm", FOUR, EMPTY), (0, b"", "")), (client("ls", "--tenant", "0"), (0, rows[: -67 - 67].encode(), "")))
         used = len(content) + 3
-        found += differences((client("stat"), (0, f"objects 2 bytes {used} uploads 0 held 0 parts 0\n".encode(), "")))
-        found += differences((client("tenants"), (0, f"tenant 0 used {used} reserved 0 limit {half_of_memory()}\n".encode(), "")))
+        check((client("stat"), (0, f"objects 2 bytes {used} uploads 0 held 0 parts 0\n".encode(), "")))
+        check((client("tenants"), (0, f"tenant 0 used {used} reserved 0 limit {half_of_memory()}\n".encode(), "")))
         status, out, err = client("journal")
-        found += differences((out.splitlines()[0], f"tenant 0 {half_of_memory()}".encode()), (client("journal", "--from", "1", "--count", "2"), (0, b"\n".join(out.splitlines()[1:3]) + b"\n", "")))
-        return found + differences((run(["--socket", server.path, "has", ABC])[0], 0), (run(["has", "--socket", server.path, ABC])[0], 0), (sorted(os.listdir(place)), ["a\\b", "copy", "large"]))
+        check((out.splitlines()[0], f"tenant 0 {half_of_memory()}".encode()), (client("journal", "--from", "1", "--count", "2"), (0, b"\n".join(out.splitlines()[1:3]) + b"\n", "")))
+        check((run(["--socket", server.path, "has", ABC])[0], 0), (run(["has", "--socket", server.path, ABC])[0], 0), (sorted(os.listdir(place)), ["a\\b", "copy", "large"]))
 
 
 def tenants_and_limits():
     """Tenants are opened and limited by size, and named before or after the command."""
     with Bridge() as server:
-        socket, found = ["--socket", server.path], []
+        socket = ["--socket", server.path]
         for words, status, out, err in (
             (["tenant", "4K"], 0, "0\n", ""), (["tenant", "1000"], 0, "1\n", ""), (["tenant", "64T"], 0, "2\n", ""), (["tenant", "0"], 0, "3\n", ""),
             (["tenant", "65T"], 1, "", "S3"), (["-T", "1", "usage"], 0, "used 0 reserved 0 limit 1000\n", ""), (["usage", "--tenant=1"], 0, "used 0 reserved 0 limit 1000\n", ""),
@@ -82,31 +82,31 @@ def tenants_and_limits():
             (["--version"], 0, f"b3store-client {b3store.__version__}\n", ""), (["limit", "5T"], 0, "", ""), (["usage"], 0, f"used 0 reserved 0 limit {5 << 40}\n", ""),
         ):
             got = run([*socket, *words])
-            found += differences(((words, got[0]), (words, status)), ((words, got[1].decode() if out is not None else None), (words, out)), (err in got[2] and "Traceback" not in got[2], True))
-            found += differences((got[2] == "", err == ""))
-        return found
+            check(((words, got[0]), (words, status)), ((words, got[1].decode() if out is not None else None), (words, out)), (err in got[2] and "Traceback" not in got[2], True))
+            check((got[2] == "", err == ""))
 
 
 def reserves_no_more_than_it_reads():
     """What is put from a pipe reserves nothing until it is read, and then its length; with a maximum, that is reserved, and nothing is kept beside the store."""
     with Bridge() as server, Client(server.path) as store, tempfile.TemporaryDirectory() as place:
-        tenant, found, content = store.tenant(1 << 30), [], content_of(9 * PART_LEN + 5)
+        tenant, content = store.tenant(1 << 30), content_of(9 * PART_LEN + 5)
         for words, reserved in ([], 0), (["--max-len", "32M"], 32 << 20):
             command = [sys.executable, "-m", "b3store", "--socket", server.path, "put", *words, "-"]
             environment = {**os.environ, "PYTHONPATH": PACKAGE, "TMPDIR": place}
             with subprocess.Popen(command, stdin=subprocess.PIPE, stdout=subprocess.PIPE, env=environment) as put:
                 put.stdin.write(content[: 8 * PART_LEN])
                 put.stdin.flush()
-                found += differences((wait_until(lambda: bool(store.uploads(tenant)), 1), reserved > 0), (store.usage(tenant).reserved, reserved), (os.listdir(place), []))
+                check((wait_until(lambda: bool(store.uploads(tenant)), 1), reserved > 0), (store.usage(tenant).reserved, reserved), (os.listdir(place), []))
                 put.stdin.write(content[8 * PART_LEN :])
                 put.stdin.close()
                 address = put.stdout.read().decode()[:64]
-            found += differences((put.returncode, 0), (store.fetch(tenant, address) == content, True), (store.usage(tenant).reserved, 0))
-        found += differences((run(["--socket", server.path, "put", "--max-len", "2M", "-"], content)[::2], (1, "b3store: -: F4: the part ends past the upload's bound\n")))
+            check((put.returncode, 0), (store.fetch(tenant, address) == content, True), (store.usage(tenant).reserved, 0))
+        check((run(["--socket", server.path, "put", "--max-len", "2M", "-"], content)[::2], (1, "b3store: -: F4: the part ends past the upload's bound\n")))
         store.limit(tenant, len(content) + 2000)
-        found += differences((run(["--socket", server.path, "put", "-"], bytes(3000))[::2], (1, "b3store: -: S6: the tenant has too few bytes left (free 2000)\n")))
-        found += differences((run(["--socket", server.path, "put", "--max-len", "1G", "-"], b"abc")[0], 1))
-        return found + differences((store.uploads(tenant), []), (len(store.list(tenant)), 1)) + keeps_on_a_full_disk(server, place)
+        check((run(["--socket", server.path, "put", "-"], bytes(3000))[::2], (1, "b3store: -: S6: the tenant has too few bytes left (free 2000)\n")))
+        check((run(["--socket", server.path, "put", "--max-len", "1G", "-"], b"abc")[0], 1))
+        check((store.uploads(tenant), []), (len(store.list(tenant)), 1))
+        keeps_on_a_full_disk(server, place)
 
 
 def keeps_on_a_full_disk(server, place):
@@ -116,19 +116,17 @@ def keeps_on_a_full_disk(server, place):
 
     words, content = [sys.executable, "-m", "b3store", "--socket", server.path, "put", "-"], bytes((64 << 20) + 1)
     ran = subprocess.run(words, input=content, capture_output=True, timeout=SECONDS, env={**os.environ, "PYTHONPATH": PACKAGE, "TMPDIR": place}, preexec_fn=limited)
-    return differences((ran.returncode, 1), (ran.stdout, b""), (ran.stderr, b"b3store: -: file too large\n"), (os.listdir(place), []))
+    check((ran.returncode, 1), (ran.stdout, b""), (ran.stderr, b"b3store: -: file too large\n"), (os.listdir(place), []))
 
 
 def names_of_all_bytes():
     """A line has the bytes of the name that was given, whatever encoding Python is told to write."""
-    found = []
     with tempfile.TemporaryDirectory() as place, Bridge() as server:
         path = os.path.join(os.fsencode(place), b"\xc3\xa9\xff")
         with open(path, "wb") as file:
             file.write(b"abc")
         for encoding in "utf-8", "latin-1", "ascii":
-            found += differences((run(["--socket", server.path, "put", path], PYTHONIOENCODING=encoding), (0, ABC.encode() + b"  " + path + b"\n", "")))
-    return found
+            check((run(["--socket", server.path, "put", path], PYTHONIOENCODING=encoding), (0, ABC.encode() + b"  " + path + b"\n", "")))
 
 
 def outputs_of_all_kinds():
@@ -136,22 +134,22 @@ def outputs_of_all_kinds():
     with tempfile.TemporaryDirectory() as place, Bridge() as server:
         run(["--socket", server.path, "put", "-"], b"abc")
         pipe, link, kept = (os.path.join(place, name) for name in ("pipe", "link", "kept"))
-        get, found = ["--socket", server.path, "get", ABC, "-o"], []
+        get = ["--socket", server.path, "get", ABC, "-o"]
         os.mkfifo(pipe)
         reader = subprocess.Popen(["timeout", str(SECONDS), "cat", pipe], stdout=subprocess.PIPE)
-        found += differences((run([*get, pipe]), (0, b"", "")), (reader.communicate()[0], b"abc"), (run([*get, os.devnull]), (0, b"", "")))
+        check((run([*get, pipe]), (0, b"", "")), (reader.communicate()[0], b"abc"), (run([*get, os.devnull]), (0, b"", "")))
         with open(kept, "wb") as file:
             file.write(b"kept")
         for target in kept, pipe, os.devnull, "/dev/stdout", "none", "link":
             os.symlink(target, link)
-            found += differences((run([*get, link]), (3, b"", f"b3store: {link}: it is a link: --follow writes to what it leads to, and - to standard output\n")))
-            found += differences((os.readlink(link), target))
+            check((run([*get, link]), (3, b"", f"b3store: {link}: it is a link: --follow writes to what it leads to, and - to standard output\n")))
+            check((os.readlink(link), target))
             os.remove(link)
-        found += differences((open(kept, "rb").read(), b"kept"), (run([*get, "/dev/full"])[::2], (3, "b3store: /dev/full: no space left on device\n")))
+        check((open(kept, "rb").read(), b"kept"), (run([*get, "/dev/full"])[::2], (3, "b3store: /dev/full: no space left on device\n")))
         os.symlink("kept", link)
-        found += differences((run([*get, link, "--follow"]), (0, b"", "")), (os.readlink(link), "kept"), (open(kept, "rb").read(), b"abc"))
+        check((run([*get, link, "--follow"]), (0, b"", "")), (os.readlink(link), "kept"), (open(kept, "rb").read(), b"abc"))
         os.remove(link)
-        return found + differences((sorted(os.listdir(place)), ["kept", "pipe"]), (run([*get, place])[::2], (3, f"b3store: {place}: is a directory\n")))
+        check((sorted(os.listdir(place)), ["kept", "pipe"]), (run([*get, place])[::2], (3, f"b3store: {place}: is a directory\n")))
 
 
 def says_what_is_wrong():
@@ -168,14 +166,13 @@ def says_what_is_wrong():
             (2, "not a number", [*socket, "get", ABC, "--range", "x:1"]), (2, "not a number", [*socket, "ls", "--tenant", "x"]),
             (2, "localhost:80", ["--tcp", "localhost:80", "ls"]), (2, "required", [*socket, "put"]),
         )
-        found = []
         for status, text, words in cases:
             got, out, err = run(words)
-            found += differences(((words[-3:], got, out), (words[-3:], status, b"")), ((text, text in err, "Traceback" in err), (text, True, False)))
+            check(((words[-3:], got, out), (words[-3:], status, b"")), ((text, text in err, "Traceback" in err), (text, True, False)))
         status, out, err = run(["--socket", "", "stat"], B3STORE_SOCKET=server.path)
-        found += differences((status, 2), (out, b""), ("no server is named" in err, True))
-        found += differences((os.listdir(place), []), (run(["--help"])[0], 0))
-        return found + fails_to_write(server, place)
+        check((status, 2), (out, b""), ("no server is named" in err, True))
+        check((os.listdir(place), []), (run(["--help"])[0], 0))
+        fails_to_write(server, place)
 
 
 def fails_to_write(server, place):
@@ -184,22 +181,21 @@ def fails_to_write(server, place):
     with open(large, "wb") as file:
         file.write(content_of(4 * PART_LEN))
     address = run(["--socket", server.path, "put", large])[1].decode()[:64]
-    found = []
     for words in ["ls"], ["get", address]:
         line = f'"$0" -m b3store --socket {server.path} {" ".join(words)} > /dev/full'
         ran = subprocess.run(["bash", "-c", line, sys.executable], capture_output=True, timeout=SECONDS, env={**os.environ, "PYTHONPATH": PACKAGE})
-        found += differences((ran.returncode, 3), (ran.stderr.decode().endswith(": no space left on device\n"), True), (ran.stderr.count(b"\n"), 1))
+        check((ran.returncode, 3), (ran.stderr.decode().endswith(": no space left on device\n"), True), (ran.stderr.count(b"\n"), 1))
     ran = subprocess.run(["bash", "-c", '"$0" -m b3store --help > /dev/full', sys.executable], capture_output=True, timeout=SECONDS, env={**os.environ, "PYTHONPATH": PACKAGE})
-    found += differences((ran.returncode, 3), (ran.stderr, b"b3store: cannot write: no space left on device\n"))
+    check((ran.returncode, 3), (ran.stderr, b"b3store: cannot write: no space left on device\n"))
     line = f'"$0" -m b3store --socket {server.path} get {address} | head -c 5 | wc -c'
     ran = subprocess.run(["bash", "-c", line, sys.executable], capture_output=True, timeout=SECONDS, env={**os.environ, "PYTHONPATH": PACKAGE})
-    found += differences((ran.stdout, b"5\n"), (ran.stderr, b""))
+    check((ran.stdout, b"5\n"), (ran.stderr, b""))
     for closing, status, text in (">&-", 3, b"standard output is closed\n"), ("<&-", 1, b"standard input is closed\n"), ("2>&-", 1, b""):
         line = f'"$0" -m b3store --socket {server.path} put - {"none" if closing[0] == "2" else ""} {closing}'
         ran = subprocess.run(["bash", "-c", line, sys.executable], capture_output=True, stdin=subprocess.DEVNULL, timeout=SECONDS, env={**os.environ, "PYTHONPATH": PACKAGE})
-        found += differences((ran.returncode, status), (ran.stderr[-len(text) :] if text else ran.stderr, text))
+        check((ran.returncode, status), (ran.stderr[-len(text) :] if text else ran.stderr, text))
     with server_of(b"") as path:
-        return found + differences((run(["--socket", path, "ls"]), (3, b"", f"b3store: {path} has closed the connection\n")))
+        check((run(["--socket", path, "ls"]), (3, b"", f"b3store: {path} has closed the connection\n")))
 
 
 def ends_on_an_interrupt():
@@ -215,7 +211,7 @@ def ends_on_an_interrupt():
             time.sleep(0.3)
             put.send_signal(signal.SIGINT)
             out, err = put.communicate(timeout=SECONDS)
-        return differences((put.returncode, 130), (out, b""), (err, b""), (run(["--socket", server.path, "ls"]), (0, b"", "")))
+        check((put.returncode, 130), (out, b""), (err, b""), (run(["--socket", server.path, "ls"]), (0, b"", "")))
 
 
 def ends_while_it_starts():
@@ -223,7 +219,6 @@ def ends_while_it_starts():
     programs = [["-m", "b3store"], ["-m", "b3store.server"], ["-m", "b3store.follow"]]
     programs += [["-c", f"from b3store.programs import {name}; {name}()"] for name in ("client", "server")]
     programs += [[os.path.join(TOP, "examples", name + ".py")] for name in ("backup", "cache")]
-    found = []
     for module in ("argparse", *(["typing"] if starts_without("typing") else [])):
         with tempfile.TemporaryDirectory() as place:
             with open(os.path.join(place, module + ".py"), "w", encoding="ascii") as file:
@@ -231,8 +226,7 @@ def ends_while_it_starts():
             environment = {**os.environ, "PYTHONPATH": f"{place}:{PACKAGE}", "PYTHONDONTWRITEBYTECODE": "1"}
             for words in programs:
                 ran = subprocess.run([sys.executable, *words], capture_output=True, timeout=SECONDS, env=environment, preexec_fn=lambda: signal.signal(signal.SIGINT, signal.SIG_DFL))
-                found += differences(((module, words, ran.returncode, ran.stdout, ran.stderr), (module, words, -signal.SIGINT, b"", b"")))
-    return found
+                check(((module, words, ran.returncode, ran.stdout, ran.stderr), (module, words, -signal.SIGINT, b"", b"")))
 
 
 def starts_without(module):
@@ -242,24 +236,21 @@ def starts_without(module):
 
 def ends_while_it_ends():
     """A signal while the interpreter ends is no traceback either: an exit handler sends it."""
-    found = []
     for number in signal.SIGTERM, signal.SIGHUP, signal.SIGINT:
         text = f"import atexit, os, sys; from b3store import console, programs; programs.end_at_once(); atexit.register(os.kill, os.getpid(), {int(number)})"
-        found += differences((run_text(text + "; sys.exit(console.finish(lambda: print('done') or 0))"), (-number, b"done\n", b"")))
-    return found
+        check((run_text(text + "; sys.exit(console.finish(lambda: print('done') or 0))"), (-number, b"done\n", b"")))
 
 
 def ends_at_signals_while_it_ends():
     """No signal is a traceback that comes while a program reports an error, or while it ends at another signal."""
-    found, numbers = [], (signal.SIGTERM, signal.SIGHUP, signal.SIGINT)
+    numbers = (signal.SIGTERM, signal.SIGHUP, signal.SIGINT)
     start = "import os, sys; from b3store import console, programs; programs.end_at_once(); end = lambda number: os.kill(os.getpid(), number); "
     for number in numbers:
         text = f"{start}console.report = lambda _: end({int(number)}); sys.exit(console.finish(lambda: int('x')))"
-        found += differences((run_text(text), (128 + number, b"", b"")))
+        check((run_text(text), (128 + number, b"", b"")))
         for second in numbers:
             text = f"{start}drop = console.drop_output; console.drop_output = lambda: (end({int(second)}), drop()); sys.exit(console.finish(lambda: end({int(number)})))"
-            found += differences((run_text(text), (128 + number, b"", b"")))
-    return found
+            check((run_text(text), (128 + number, b"", b"")))
 
 
 def run_text(text):

@@ -7,7 +7,7 @@ import shutil
 import tempfile
 
 from bridge import client_of_a_server, over_both
-from shared import ABC, EMPTY, differences, raised, refusal
+from shared import ABC, EMPTY, check, raised, refusal
 from b3store import LogError, ObjectPage, Redone, RedoLog, Refused, SaveError, Store, Usage, renew
 from judging import wait_until
 
@@ -54,23 +54,23 @@ def copied(store, target, count):
 @over_both
 def redone(store):
     fill(store)
-    found, state = [], without_order(state_of(store))
+    state = without_order(state_of(store))
     for count in 1, 7, 4096:
         with Store() as other, client_of_a_server() as client:
-            found += [f"{count} entries at a time" for target in (other, client) if without_order(state_of(copied(store, target, count))) != state]
+            check(*((without_order(state_of(copied(store, target, count))) == state, True) for target in (other, client)))
     end = store.counts().entries
-    found += differences((store.redo(end), Redone(end, b"")), (store.redo(0, 1), Redone(1, b"tenant %d\n" % (1 << 30))), (store.redo(0, 0), Redone(0, b"")))
-    return found + differences(*((raised(store.redo, wrong), fault) for wrong, fault in ((-1, ValueError), ("0", TypeError), (1 << 64, ValueError))))
+    check((store.redo(end), Redone(end, b"")), (store.redo(0, 1), Redone(1, b"tenant %d\n" % (1 << 30))), (store.redo(0, 0), Redone(0, b"")))
+    check(*((raised(store.redo, wrong), fault) for wrong, fault in ((-1, ValueError), ("0", TypeError), (1 << 64, ValueError))))
 
 
 @over_both
 def lines_that_are_run(store):
     """They are bytes or a file. An incomplete one at the end isn't run, and neither is what isn't a line of a log."""
     end = len(ABC_LINES)
-    found = differences((store.run_lines(ABC_LINES), end), (store.usage(0), Usage(3, 0, 60)), (store.run_lines(b""), 0))
+    check((store.run_lines(ABC_LINES), end), (store.usage(0), Usage(3, 0, 60)), (store.run_lines(b""), 0))
     for lines, whole in (b"fileas 0 %s 3\nab" % ABC.encode(), 0), (b"limit 0 70\nlimit 0 8", 11), (bytearray(b"limit 0 80\nl"), 11), (io.BytesIO(b"limit 0 90\nfo"), 11):
-        found += differences((store.run_lines(lines), whole))
-    found += differences((store.usage(0).limit, 90))
+        check((store.run_lines(lines), whole))
+    check((store.usage(0).limit, 90))
     wrong = (
         (b"limit 0 50\nlimit 1 5\nlimit 0 40\n", 2, 11, "S1"), (b"fileas 0 %s 3\nabclimit 0 2\n" % ABC.encode(), 2, 79, "S4"),
         (b"fileas 0 %s 3\nabdlimit 0 30\n" % ABC.encode(), 1, 0, "S11"), (b"limit 0 50\nlist 0\n", 2, 11, None), (b"limit 0 50\n\nlimit 0 30\n", 2, 11, None),
@@ -80,19 +80,18 @@ def lines_that_are_run(store):
     for lines, number, offset, name in wrong:
         try:
             store.run_lines(lines)
-            found.append(f"{lines[:50]!r} is run")
+            raise AssertionError(f"{lines[:50]!r} is run")
         except LogError as fault:
             again = pickle.loads(pickle.dumps(fault))
-            found += differences(((again.number, again.offset, again.refusal and again.refusal.number), (number, offset, name)), (str(again), str(fault)))
-    found += differences(*((raised(store.run_lines, wrong), TypeError) for wrong in (None, "limit 0 5\n", 5, [b"limit 0 5\n"])))
-    return found + differences((store.list(0), {ABC: 3}), (store.stat().uploads, 0), (store.counts().tenants, 1))
+            check(((again.number, again.offset, again.refusal and again.refusal.number), (number, offset, name)), (str(again), str(fault)))
+    check(*((raised(store.run_lines, wrong), TypeError) for wrong in (None, "limit 0 5\n", 5, [b"limit 0 5\n"])))
+    check((store.list(0), {ABC: 3}), (store.stat().uploads, 0), (store.counts().tenants, 1))
 
 
 @over_both
 def pages_of_objects(store):
     tenant = store.tenant()
     rows = [(store.file(tenant, b"%d" % number).address, len(str(number))) for number in range(25)]
-    found = []
     for count in 1, 7, 25, 26, 4096:
         at, listed = 0, []
         while True:
@@ -100,9 +99,9 @@ def pages_of_objects(store):
             listed += page
             if len(page) < count:
                 break
-        found += differences((listed, rows))
-    found += differences((store.objects(tenant).objects, rows), (store.objects(tenant, 1 << 40, 5), ObjectPage(1 << 40, [])), (refusal(store.objects, 5), ("S1", None)))
-    return found + differences((raised(store.objects, "0"), TypeError), (raised(store.objects, 0, -1), ValueError), (raised(store.objects, 0, 0, 1 << 64), ValueError))
+        check((listed, rows))
+    check((store.objects(tenant).objects, rows), (store.objects(tenant, 1 << 40, 5), ObjectPage(1 << 40, [])), (refusal(store.objects, 5), ("S1", None)))
+    check((raised(store.objects, "0"), TypeError), (raised(store.objects, 0, -1), ValueError), (raised(store.objects, 0, 0, 1 << 64), ValueError))
 
 
 def renewed_stores():
@@ -111,7 +110,7 @@ def renewed_stores():
     fill(store)
     state, entries = state_of(store), store.counts().entries
     new = renew(store)
-    found = differences((state_of(new) == state, True), (new.counts().entries < entries, True), (new.stat().uploads, 0), (raised(store.stat), ValueError))
+    check((state_of(new) == state, True), (new.counts().entries < entries, True), (new.stat().uploads, 0), (raised(store.stat), ValueError))
 
     class Failing(Store):
         """A store that has no memory once."""
@@ -129,49 +128,38 @@ def renewed_stores():
         for number in range(5):
             store.upload(bytes([number]) * 20_000, 0)
         before = state_of(store)
-        found += differences((refusal(renew, store), ("S14", None)), (without_order(state_of(store)) == without_order(before), True), (store.stat().uploads, 0))
+        check((refusal(renew, store), ("S14", None)), (without_order(state_of(store)) == without_order(before), True), (store.stat().uploads, 0))
     new.close()
-    return found
 
 
 def logs_of_stores():
     """A log follows a store of this process, is written anew when that pays, goes on after the store is renewed, and restores it."""
-    found, told = [], []
+    told = []
     with tempfile.TemporaryDirectory() as room:
         folder = os.path.join(room, "saved")
         log, store = RedoLog(folder, told.append), Store()
-        found += differences((log.restore(store), None), (log.follow(store), False))
+        check((log.restore(store), None), (log.follow(store), False))
         fill(store)
-        found += differences((log.follow(store), False), (is_copy(folder, store, found), True))
+        check((log.follow(store), False), (is_copy(folder, store, told), True))
         for number in range(9):
             address = store.file(0, bytes([number]) * 4_000_000).address
             log.follow(store)
             store.forget(0, address)
-        found += differences((wait_until(lambda: not log.follow(store)), True), (os.stat(f"{folder}/log").st_size < 36_000_000, True))
+        check((wait_until(lambda: not log.follow(store)), True), (os.stat(f"{folder}/log").st_size < 36_000_000, True))
         entries, store = store.counts().entries, log.renew(store)
-        found += differences((store.counts().entries < entries, True))
+        check((store.counts().entries < entries, True))
         store.file(0, b"late")
-        found += differences((log.follow(store), False), (is_copy(folder, store, found), True))
-        found += differences((log.finish(store), "19 objects and 3 tenants"), (log.follow(store), False))
-        found += differences((raised(RedoLog, folder, told.append), SaveError), (raised(RedoLog, __file__, told.append), SaveError), (log.close(), None))
-        found += differences((raised(RedoLog, folder, told.append), None), (log.follow(store), False), (told, []))
+        check((log.follow(store), False), (is_copy(folder, store, told), True))
+        check((log.finish(store), "19 objects and 3 tenants"), (log.follow(store), False))
+        check((raised(RedoLog, folder, told.append), SaveError), (raised(RedoLog, __file__, told.append), SaveError), (log.close(), None))
+        check((raised(RedoLog, folder, told.append), None), (log.follow(store), False), (told, []))
         store.close()
-    return found
 
 
-def is_copy(folder, store, found):
+def is_copy(folder, store, told):
     """Whether a copy of a folder restores what a store has."""
     with tempfile.TemporaryDirectory() as other, Store() as restored:
         shutil.copy(f"{folder}/log", f"{other}/log")
-        with contextlib.closing(RedoLog(other, found.append)) as log:
-            found += [] if log.restore(restored) else ["nothing is restored"]
+        with contextlib.closing(RedoLog(other, told.append)) as log:
+            check((bool(log.restore(restored)), True))
         return without_order(state_of(restored)) == without_order(state_of(store))
-
-
-CASES = (
-    ("what redoes entries", redone),
-    ("lines that are run", lines_that_are_run),
-    ("objects in pages", pages_of_objects),
-    ("stores that are renewed", renewed_stores),
-    ("logs of stores in this process", logs_of_stores),
-)

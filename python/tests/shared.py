@@ -9,7 +9,7 @@ import threading
 TOP = os.path.dirname(os.path.dirname(os.path.dirname(os.path.abspath(__file__))))
 sys.path[1:1] = [os.path.join(TOP, "tests", "common"), os.path.join(TOP, "python"), os.path.join(TOP, "examples")]
 from b3store import Ended, Refused
-from judging import differences, wait_until
+from judging import check, wait_until
 
 PROGRAM = os.path.abspath(sys.argv[1]) if len(sys.argv) > 1 else os.path.join(TOP, "target", "b3store")
 SECONDS = 60

@@ -14,7 +14,7 @@ import sys
 import threading
 
 from bridge import client_of_a_server, over_both
-from shared import ABC, EMPTY, FOUR, SECONDS, TOP, alarms, differences, in_threads, interrupted_calls, raised, refusal
+from shared import ABC, EMPTY, FOUR, SECONDS, TOP, alarms, check, in_threads, interrupted_calls, raised, refusal
 from b3store import MAX_NUMBER, PART_LEN, REFUSALS, Counts, Filed, Held, OpenUpload, Refused, Store, Totals, Usage
 from b3store.store import SMALL_LEN
 from b3store.values import half_of_memory
@@ -28,7 +28,7 @@ SIZES = (0, 1, 1000, SMALL_LEN, SMALL_LEN + 1, PART_LEN, PART_LEN + 1)
 def each_command(store):
     tenant = store.tenant(4096)
     upload = store.begin(tenant, 3)
-    return differences(
+    check(
         (tenant, 0), (upload, 0), (store.uploads(0), [OpenUpload(0, 3, 3, 0)]), (store.put(0, 0, b"abc"), Held(3, None)),
         (store.seal(0), Filed(True, ABC, 3)), (store.entries(), JOURNAL), (store.entries(2), JOURNAL[2:]), (store.entries(4), []),
         (store.has(0, ABC), 3), (store.has(0, FOUR), None), (store.fetch(0, ABC), b"abc"), (store.fetch(0, ABC, 1, 1), b"b"),
@@ -47,7 +47,7 @@ def each_refusal(store):
     store.begin_open(0, 2048)
     upload = store.begin(0, 3)
     store.put(upload, 0, b"abc")
-    return differences(
+    check(
         (refusal(store.usage, 1), ("S1", None)), (refusal(store.tenant, (1 << 46) + 1), ("S3", None)), (refusal(store.limit, 0, 5), ("S4", 2051)),
         (refusal(store.begin, 0, (1 << 44) + 1), ("S5", None)), (refusal(store.begin, 0, 950), ("S6", 949)), (refusal(store.seal, 7), ("S7", None)),
         (refusal(store.file, 0, bytes(950)), ("S6", 949)), (refusal(store.file, 1, b"abc"), ("S1", None)), (refusal(store.file, 0, b"abc", FOUR), ("S11", ABC)),
@@ -78,23 +78,23 @@ class NotEven:
 def wrong_arguments(store):
     """They raise before anything is sent: the commands after them are answered as if they had not been made."""
     tenant, upload = store.tenant(4096), store.begin(0, 8)
-    found = differences(*(
+    check(*(
         (raised(store.put, upload, 0, part), TypeError) for part in ("settings", None, 5, [1, 2], {"a": 1}, memoryview(b"settings")[::2], object())
     ))
-    found += differences((store.put(upload, 0, array.array("I", [1, 2])), Held(8, None)), (store.seal(upload).length, 8))
+    check((store.put(upload, 0, array.array("I", [1, 2])), Held(8, None)), (store.seal(upload).length, 8))
     for call in store.usage, lambda number: store.file(number, b"abc"), lambda number: store.put(number, 0, b"abc"), lambda number: store.fetch(number, ABC):
-        found += differences(*((raised(call, number), TypeError) for number in ("0", 0.0, None, b"0", [0], NotEven(), "0\nabort 0")))
-        found += differences(*((raised(call, number), ValueError) for number in (-1, 1 << 64, 10 ** 5000)))
+        check(*((raised(call, number), TypeError) for number in ("0", 0.0, None, b"0", [0], NotEven(), "0\nabort 0")))
+        check(*((raised(call, number), ValueError) for number in (-1, 1 << 64, 10 ** 5000)))
     filed = store.file(tenant, b"abc")
     wrong = (filed.address + "\nforget 0 " + filed.address, "", ABC[:-1], ABC + "0", "g" * 64, ABC + "\n", "\u0660" * 64, " " + ABC[1:])
     calls = lambda tenant, address: store.file(tenant, b"abc", address), lambda tenant, address: store.open(tenant, address)
     for call in (store.has, store.fetch, store.forget, *calls):
-        found += differences(*((raised(call, tenant, address), ValueError) for address in wrong))
-        found += differences(*((raised(call, tenant, address), TypeError) for address in (ABC.encode(), [], 5)))
-    found += differences((raised(store.ranges, tenant, ABC, 0), ValueError), (raised(store.file, tenant, "abc"), TypeError))
-    found += differences((store.has(tenant, Text(ABC)), 3), (store.file(tenant, array.array("I")).length, 0), (store.forget(tenant, EMPTY), None))
-    found += differences((raised(store.entries, 0, -1), ValueError), (raised(store.entries, 0, "1\nabort 0"), TypeError), (raised(Store, "b3store"), TypeError))
-    return found + differences(
+        check(*((raised(call, tenant, address), ValueError) for address in wrong))
+        check(*((raised(call, tenant, address), TypeError) for address in (ABC.encode(), [], 5)))
+    check((raised(store.ranges, tenant, ABC, 0), ValueError), (raised(store.file, tenant, "abc"), TypeError))
+    check((store.has(tenant, Text(ABC)), 3), (store.file(tenant, array.array("I")).length, 0), (store.forget(tenant, EMPTY), None))
+    check((raised(store.entries, 0, -1), ValueError), (raised(store.entries, 0, "1\nabort 0"), TypeError), (raised(Store, "b3store"), TypeError))
+    check(
         (store.has(tenant, ABC.upper()), 3), (store.stat(), Totals(2, 11, 0, 0, 0)), (store.usage(True - 1).used, 11),
         (store.fetch(tenant, list(store.list(tenant))[0]), array.array("I", [1, 2]).tobytes()), (len(store.entries()), 10),
     )
@@ -106,8 +106,8 @@ def some_entries(store):
     store.tenant(4096)
     store.file(0, b"abc")
     pieces = [store.entries(start, 2) for start in range(0, 6, 2)]
-    found = differences((pieces, [JOURNAL[:2], JOURNAL[2:], []]), (store.entries(1, 1), JOURNAL[1:2]), (store.entries(1, MAX_NUMBER), JOURNAL[1:]))
-    return found + differences((store.entries(count=1), JOURNAL[:1]), (store.stat(), Totals(1, 3, 0, 0, 0)))
+    check((pieces, [JOURNAL[:2], JOURNAL[2:], []]), (store.entries(1, 1), JOURNAL[1:2]), (store.entries(1, MAX_NUMBER), JOURNAL[1:]))
+    check((store.entries(count=1), JOURNAL[:1]), (store.stat(), Totals(1, 3, 0, 0, 0)))
 
 
 def refusals_are_values():
@@ -119,36 +119,37 @@ def refusals_are_values():
         except Refused as refused:
             copies = [refused, copy.copy(refused), copy.deepcopy(refused), pickle.loads(pickle.dumps(refused))]
             told = "S6: the tenant has too few bytes left (free 5)"
-            return differences(*(((it.number, it.value, it.label, str(it)), ("S6", 5, "free", told)) for it in copies))
-    return ["nothing was refused"]
+            check(*(((it.number, it.value, it.label, str(it)), ("S6", 5, "free", told)) for it in copies))
+        else:
+            raise AssertionError("nothing was refused")
 
 
 def refusals_of_the_page():
-    """The module's table has the refusals that docs/FORMATS.md says of a session's lines."""
-    with open(os.path.join(TOP, "docs", "FORMATS.md"), encoding="utf-8") as page:
+    """The module's table has the refusals that docs/PROTOCOL.md says of a session's lines."""
+    with open(os.path.join(TOP, "docs", "PROTOCOL.md"), encoding="utf-8") as page:
         told = set(re.findall(r"^\| ([SF]\d+) \|", page.read(), re.MULTILINE))
-    return differences((set(REFUSALS), told - {"S8"}))
+    check((set(REFUSALS), told - {"S8"}))
 
 
 def buffers_of_all_kinds():
     """Content is taken from where it is, whatever has it: its bytes and its address are the same."""
     with Store() as store, mmap.mmap(-1, 3 * PART_LEN) as mapped:
-        tenant, found = store.tenant(), []
+        tenant = store.tenant()
         for size in SIZES:
             content = os.urandom(size)
             mapped[5 : 5 + size], address = content, store.file(tenant, content).address
             around = b"before" + content + b"after"
             for kind in bytearray(content), memoryview(content), memoryview(around)[6 : 6 + size], memoryview(bytearray(around))[6 : 6 + size], memoryview(mapped)[5 : 5 + size]:
-                found += differences((store.file(tenant, kind), Filed(False, address, size)), (store.upload(kind, tenant, address=address).address, address))
+                check((store.file(tenant, kind), Filed(False, address, size)), (store.upload(kind, tenant, address=address).address, address))
                 if isinstance(kind, memoryview):
                     kind.release()
             room = bytearray(size + 7)
-            found += differences((store.fetch(tenant, address) == content, True), (store.fetch_into(tenant, address, memoryview(room)[7:]), size), (room[7:] == content, True))
+            check((store.fetch(tenant, address) == content, True), (store.fetch_into(tenant, address, memoryview(room)[7:]), size), (room[7:] == content, True))
         grown = bytearray(PART_LEN)
         store.file(tenant, grown)
         # nothing keeps it
         grown.append(1)
-        return found + differences((store.stat().uploads, 0))
+        check((store.stat().uploads, 0))
 
 
 def file_of_parts(store, tenant, content):
@@ -163,30 +164,28 @@ def share(store):
     tenant, contents = store.tenant(), [bytes([number]) * (9000 * number + 1) for number in range(8)]
 
     def work(number):
-        found = []
         for turn in range(20):
             content = contents[(number + turn) % 8]
             filed = store.file(tenant, content)
             address = file_of_parts(store, tenant, content)
-            found += differences((filed.length, len(content)), (address, filed.address), (b"".join(store.ranges(tenant, address)) == content, True))
-            found += differences((refusal(store.file, tenant, content, "0" * 64), ("S11", address)), (refusal(store.begin, 1, 5), ("S1", None)))
-        return found
+            check((filed.length, len(content)), (address, filed.address), (b"".join(store.ranges(tenant, address)) == content, True))
+            check((refusal(store.file, tenant, content, "0" * 64), ("S11", address)), (refusal(store.begin, 1, 5), ("S1", None)))
 
-    found = [fault for faults in in_threads(work, 8) for fault in faults]
+    check((in_threads(work, 8), [None] * 8))
     entries = store.entries()
-    found += differences((store.stat(), Totals(8, sum(map(len, contents)), 0, 0, 0)), (len([line for line in entries if line.startswith("seal")]), 320))
-    found += differences((store.entries(5, 3), entries[5:8]), (store.entries(0, 0), []), (store.entries(len(entries) - 1, 5), entries[-1:]))
-    return found[:5]
+    check((store.stat(), Totals(8, sum(map(len, contents)), 0, 0, 0)), (len([line for line in entries if line.startswith("seal")]), 320))
+    check((store.entries(5, 3), entries[5:8]), (store.entries(0, 0), []), (store.entries(len(entries) - 1, 5), entries[-1:]))
 
 
 def by_threads():
     with Store() as store, client_of_a_server(sessions=4) as client:
-        return share(store) + share(client)
+        share(store)
+        share(client)
 
 
 def closed_stores():
     """A closed store is said to be closed, by each command, and what an object gave stays; threads that use it meanwhile get nothing else."""
-    found, content = [], os.urandom(SMALL_LEN + 1)
+    content = os.urandom(SMALL_LEN + 1)
     calls = (
         lambda store: store.stat(), lambda store: store.file(0, b"abc"), lambda store: store.upload(content, 0), lambda store: store.put(0, 0, content),
         lambda store: store.fetch(0, ABC), lambda store: store.fetch_into(0, ABC, bytearray(3)), lambda store: store.begin(0, 3), lambda store: store.objects(0),
@@ -196,7 +195,7 @@ def closed_stores():
             store.tenant()
             store.file(0, b"abc")
             store.begin(0, len(content))
-        found += differences((raised(call, store), ValueError), (store.close(), None))
+        check((raised(call, store), ValueError), (store.close(), None))
     for _ in range(20):
         store = Store()
         store.tenant()
@@ -206,13 +205,11 @@ def closed_stores():
                 store.fetch(0, store.upload(content, 0).address)
 
         threading.Timer(0.02, store.close).start()
-        found += differences((set(in_threads(work, 4)), {ValueError}))
-    return found
+        check((set(in_threads(work, 4)), {ValueError}))
 
 
 def stores_after_a_fork():
     """A process that was forked can't use its parent's store, and opens one of its own; the parent goes on."""
-    found = []
     with Store() as store:
         tenant = store.tenant()
         for taken in False, True:
@@ -224,9 +221,9 @@ def stores_after_a_fork():
                     use_after_fork(store, writing)
             os.close(writing)
             with open(reading, "rb") as told:
-                found += differences((told.read(), b"ValueError True None"))
+                check((told.read(), b"ValueError True None"))
             os.waitpid(child, 0)
-        return found + differences((store.upload(b"abc", tenant).address, ABC))
+        check((store.upload(b"abc", tenant).address, ABC))
 
 
 def use_after_fork(store, writing):
@@ -262,7 +259,7 @@ def memory_that_is_freed():
             if turn % 2:
                 store.close()
             before = resident() if turn == 9 else before
-        return differences((resident() - before < 5 * len(content), True))
+        check((resident() - before < 5 * len(content), True))
     finally:
         gc.enable()
 
@@ -296,7 +293,7 @@ def stores_without_memory():
     """What there is no memory for is refused, or raises MemoryError, and no upload is left of it."""
     environment = {**os.environ, "PYTHONPATH": os.path.join(TOP, "python")}
     ran = subprocess.run([sys.executable, "-c", WITHOUT_MEMORY], capture_output=True, timeout=SECONDS, env=environment)
-    return differences((ran.stderr.decode()[-300:], ""), (ran.stdout, b"True True True\n"))
+    check((ran.stderr.decode()[-300:], ""), (ran.stdout, b"True True True\n"))
 
 
 def interrupts_at_any_moment():
@@ -304,7 +301,7 @@ def interrupts_at_any_moment():
     there it is only rarer."""
     if sys.version_info < (3, 11):
         return []
-    found, small, large = [], os.urandom(1000), os.urandom(5 * PART_LEN)
+    small, large = os.urandom(1000), os.urandom(5 * PART_LEN)
     with alarms(), Store() as store:
         tenant = store.tenant()
         address = store.file(tenant, large[:PART_LEN]).address
@@ -317,7 +314,6 @@ def interrupts_at_any_moment():
             if store._lock.locked():
                 return ["the lock is kept"]
             opened = {upload.bound for upload in store.uploads(tenant)} - {7}
-            found += differences((opened, set()))
+            check((opened, set()))
         held = {name: store.fetch(tenant, name) for name in store.list(tenant)}
-        found += differences((all(content in (small, large, large[: 1 << 16], large[:PART_LEN]) for content in held.values()), True))
-    return found[:1]
+        check((all(content in (small, large, large[: 1 << 16], large[:PART_LEN]) for content in held.values()), True))

@@ -9,7 +9,7 @@ import tempfile
 import threading
 
 from bridge import client_of_a_server, over_both
-from shared import ABC, EMPTY, FOUR, SECONDS, Interrupted, differences, interrupt, raised, refusal
+from shared import ABC, EMPTY, FOUR, SECONDS, Interrupted, check, interrupt, raised, refusal
 from b3store import MAX_LIMIT, MAX_UPLOAD_LEN, PART_LEN, AsyncStore, Ended, Filed, Held, Refused, Totals, Usage
 from b3store.values import half_of_memory
 
@@ -65,17 +65,16 @@ def sources_of(content, place):
 
 @over_both
 def uploads_of_all_sources(store):
-    found = []
     with tempfile.TemporaryDirectory() as place:
         tenant = store.tenant(LIMIT)
         for length in LENGTHS:
             content = content_of(length)
             filed = store.upload(content, tenant)
-            found += differences((filed.length, length), (store.fetch(tenant, filed.address) == content, True))
+            check((filed.length, length), (store.fetch(tenant, filed.address) == content, True))
             for source, given in sources_of(content, place):
                 again = store.upload(source, tenant, given)
-                found += differences(((type(source).__name__, length, again), (type(source).__name__, length, filed._replace(is_new=False))))
-        return found + differences((store.stat().objects, len(LENGTHS)), (store.uploads(tenant), []), (store.usage(tenant).reserved, 0))
+                check(((type(source).__name__, length, again), (type(source).__name__, length, filed._replace(is_new=False))))
+        check((store.stat().objects, len(LENGTHS)), (store.uploads(tenant), []), (store.usage(tenant).reserved, 0))
 
 
 class Failing(Reader):
@@ -107,19 +106,18 @@ def uploads_that_fail(store):
             (ValueError, b"abc", MAX_UPLOAD_LEN + 1), (Refused, bytes(10 * PART_LEN + 1), None), (Refused, Reader(large + large), None),
             (Refused, io.BytesIO(large + large), None), (Refused, Reader(large), 10 * PART_LEN + 1),
         )
-        found = []
         for wanted, source, length in cases:
-            found += differences((raised(store.upload, source, tenant, length), wanted), (store.uploads(tenant), []), (store.usage(tenant).reserved, 0))
+            check((raised(store.upload, source, tenant, length), wanted), (store.uploads(tenant), []), (store.usage(tenant).reserved, 0))
         for source in b"abc", io.BytesIO(b"abc"):
-            for wanted, options in (TypeError, {"max_len": "3"}), (ValueError, {"max_len": -1}), (TypeError, {"progress": 5}):
-                found += differences((raised(lambda: store.upload(source, tenant, **options)), wanted))
+            for wanted, options in (TypeError, {"max_len": "3"}), (ValueError, {"max_len": -1}):
+                check((raised(lambda: store.upload(source, tenant, **options)), wanted))
         for source in b"abc", large, io.BytesIO(large), Reader(b"abc"):
-            found += differences((raised(lambda: store.upload(source, tenant, address=FOUR)), Refused), (raised(lambda: store.upload(source, tenant, address="4")), ValueError))
+            check((raised(lambda: store.upload(source, tenant, address=FOUR)), Refused), (raised(lambda: store.upload(source, tenant, address="4")), ValueError))
         for wanted, max_len in ("F4", 1024), ("S6", 20 * PART_LEN), ("F4", PART_LEN):
-            found += differences((refusal(lambda: store.upload(io.BytesIO(large), tenant, max_len=max_len))[0], wanted))
-        found += differences((refusal(lambda: store.upload(Reader(b"abc"), tenant, max_len=2)), ("F4", None)))
-        found += differences((refusal(store.upload, b"abc", 7), ("S1", None)), (store.uploads(tenant), []), (store.usage(tenant).reserved, 0))
-        return found + differences((store.upload(io.BytesIO(large), tenant).length, len(large)), (store.upload(b"abc", tenant, address=ABC).address, ABC))
+            check((refusal(lambda: store.upload(io.BytesIO(large), tenant, max_len=max_len))[0], wanted))
+        check((refusal(lambda: store.upload(Reader(b"abc"), tenant, max_len=2)), ("F4", None)))
+        check((refusal(store.upload, b"abc", 7), ("S1", None)), (store.uploads(tenant), []), (store.usage(tenant).reserved, 0))
+        check((store.upload(io.BytesIO(large), tenant).length, len(large)), (store.upload(b"abc", tenant, address=ABC).address, ABC))
 
 
 @over_both
@@ -128,12 +126,12 @@ def uploads_side_by_side(store):
     tenant, small = store.tenant(MAX_LIMIT), store.tenant(8 * PART_LEN)
     uploads = [store.start_upload(tenant) for _ in range(63)]
     content = content_of(5 * PART_LEN)
-    found = differences((store.upload(Reader(content), tenant).length, len(content)), ({upload.bound for upload in store.uploads(tenant)}, {1 << 40}))
+    check((store.upload(Reader(content), tenant).length, len(content)), ({upload.bound for upload in store.uploads(tenant)}, {1 << 40}))
     store.upload(Reader(content), small)
-    found += differences((refusal(store.upload, Reader(content + b"more"), small), ("S6", 3 * PART_LEN)), (store.uploads(small), []))
+    check((refusal(store.upload, Reader(content + b"more"), small), ("S6", 3 * PART_LEN)), (store.uploads(small), []))
     for upload in uploads:
         upload.abort()
-    return found + differences((store.usage(small).reserved, 0), (store.usage(tenant).reserved, 0))
+    check((store.usage(small).reserved, 0), (store.usage(tenant).reserved, 0))
 
 
 class OneWay(io.BytesIO):
@@ -152,8 +150,8 @@ def files_that_go_one_way(store):
     tenant = store.tenant(LIMIT)
     with read_end_of_pipe(gzip.compress(content, 1)) as pipe, gzip.open(pipe) as file:
         address = store.upload(file, tenant).address
-    found = differences((store.fetch(tenant, address) == content, True), (store.upload(OneWay(content), tenant).address, address))
-    return found + differences((store.stat().objects, 1), (store.uploads(tenant), []), (store.usage(tenant).reserved, 0))
+    check((store.fetch(tenant, address) == content, True), (store.upload(OneWay(content), tenant).address, address))
+    check((store.stat().objects, 1), (store.uploads(tenant), []), (store.usage(tenant).reserved, 0))
 
 
 @over_both
@@ -161,19 +159,19 @@ def writes_after_a_refusal(store):
     """Once a write was refused, it isn't known which bytes the store has: the upload is aborted, and not sealed without some of them."""
     tenant = store.tenant(LIMIT)
     upload = store.start_upload(tenant, max_len=2 * PART_LEN)
-    found = differences((upload.write(bytes(PART_LEN // 2)), PART_LEN // 2), (refusal(upload.write, bytes(3 * PART_LEN)), ("F4", None)))
-    found += differences((upload.is_open, False), (store.uploads(tenant), []), (raised(upload.write, b"a"), ValueError))
-    found += differences((refusal(upload.seal), ("S7", None)), (store.list(tenant), {}), (store.usage(tenant).reserved, 0))
+    check((upload.write(bytes(PART_LEN // 2)), PART_LEN // 2), (refusal(upload.write, bytes(3 * PART_LEN)), ("F4", None)))
+    check((upload.is_open, False), (store.uploads(tenant), []), (raised(upload.write, b"a"), ValueError))
+    check((refusal(upload.seal), ("S7", None)), (store.list(tenant), {}), (store.usage(tenant).reserved, 0))
 
     def write_on():
         with store.start_upload(tenant, max_len=PART_LEN) as upload:
             refusal(upload.write, bytes(2 * PART_LEN))
 
-    found += differences((refusal(write_on), ("F4", None)), (raised(write_after_an_interrupt, store, tenant), Interrupted), (store.uploads(tenant), []))
+    check((refusal(write_on), ("F4", None)), (raised(write_after_an_interrupt, store, tenant), Interrupted), (store.uploads(tenant), []))
     with store.start_upload(tenant) as upload:
         upload.write(b"abc")
         upload.seal()
-        return found + differences((raised(upload.write, b"d"), ValueError), (store.fetch(tenant, upload.filed.address), b"abc"))
+        check((raised(upload.write, b"d"), ValueError), (store.fetch(tenant, upload.filed.address), b"abc"))
 
 
 def write_after_an_interrupt(store, tenant):
@@ -189,29 +187,29 @@ def write_after_an_interrupt(store, tenant):
 @over_both
 def uploads_with_blocks(store):
     """An upload that is left by an exception is aborted, and sealed otherwise."""
-    tenant, found = store.tenant(LIMIT), []
+    tenant = store.tenant(LIMIT)
     try:
         with store.start_upload(tenant, 3) as upload:
             upload.write(b"a")
             raise KeyError
     except KeyError:
-        found += differences((store.uploads(tenant), []), (upload.is_open, False), (upload.filed, None))
+        check((store.uploads(tenant), []), (upload.is_open, False), (upload.filed, None))
     content = content_of(5 * PART_LEN + 5)
     for step in 1000, 700001, PART_LEN, 10 * PART_LEN:
         filed = written(store, tenant, content, step)
-        found += differences((filed.length, len(content)), (store.has(tenant, filed.address), len(content)), (store.fetch(tenant, filed.address) == content, True))
+        check((filed.length, len(content)), (store.has(tenant, filed.address), len(content)), (store.fetch(tenant, filed.address) == content, True))
     with store.start_upload(tenant, max_len=4096) as upload:
-        found += differences((upload.put(1024, bytes(1024)), Held(1024, 0)), (upload.put(0, bytes(1024)), Held(2048, 2048)), (upload.fix(2048), None))
-        found += differences((upload.seal().length, 2048), (store.uploads(tenant), []))
+        check((upload.write(bytes(2048)), 2048))
+        check((upload.seal().length, 2048), (store.uploads(tenant), []))
     with store.start_upload(tenant) as upload:
         pass
-    found += differences((upload.filed.address, EMPTY))
+    check((upload.filed.address, EMPTY))
     with store.start_upload(tenant, 3) as upload:
         upload.abort()
-    found += differences((upload.filed, None), (store.uploads(tenant), []))
-    found += differences((refusal(lambda: seal_wrongly(store, tenant)), ("S11", ABC)), (refusal(lambda: leave_early(store, tenant)), ("S10", 0)))
-    found += differences((raised(store.start_upload, tenant, 5, 5), ValueError), (raised(upload.write, "abc"), TypeError))
-    return found + differences((store.uploads(tenant), []), (store.usage(tenant).reserved, 0), (len(store.list(tenant)), 3))
+    check((upload.filed, None), (store.uploads(tenant), []))
+    check((refusal(lambda: seal_wrongly(store, tenant)), ("S11", ABC)), (refusal(lambda: leave_early(store, tenant)), ("S10", 0)))
+    check((raised(store.start_upload, tenant, 5, 5), ValueError), (raised(upload.write, "abc"), TypeError))
+    check((store.uploads(tenant), []), (store.usage(tenant).reserved, 0), (len(store.list(tenant)), 3))
 
 
 def written(store, tenant, content, step):
@@ -246,54 +244,54 @@ def slow_files(store):
             other = threading.Thread(target=lambda: others.extend(store.stat().objects for _ in range(10)), daemon=True)
             other.start()
             other.join(SECONDS)
-            found = differences((others, [0] * 10))
+            check((others, [0] * 10))
             file.write(content[5 * PART_LEN :])
         thread.join(SECONDS)
-        return found + differences((len(results), 1), (results and results[0].length, len(content)))
+        check((len(results), 1), (results and results[0].length, len(content)))
 
 
 @over_both
 def objects_as_files(store):
     tenant, content = store.tenant(LIMIT), content_of(3 * PART_LEN + 5)
-    address, found = store.upload(content, tenant).address, []
+    address = store.upload(content, tenant).address
     for buffering in 1 << 18, 100, 0:
         with store.open(tenant, address, buffering) as file:
-            found += differences((file.readable(), True), (file.seekable(), True), (file.writable(), False), (file.tell(), 0))
-            found += differences((file.read(10), content[:10]), (file.tell(), 10), (file.seek(-5, io.SEEK_END), len(content) - 5), (file.read(), content[-5:]))
-            found += differences((file.read(1), b""), (file.seek(1 << 50), 1 << 50), (file.read(), b""), (file.seek(7), 7), (file.seek(3, io.SEEK_CUR), 10))
-            found += differences((file.read() == content[10:], True), (raised(file.seek, -1), ValueError), (raised(file.seek, 0, 9), ValueError), (raised(file.write, b"a"), io.UnsupportedOperation))
-            found += differences((file.seek(0), 0), (b"".join(iter(lambda: file.read(100000), b"")) == content, True))
-        found += differences((raised(file.read), ValueError), (raised(file.read, 1), ValueError))
+            check((file.readable(), True), (file.seekable(), True), (file.writable(), False), (file.tell(), 0))
+            check((file.read(10), content[:10]), (file.tell(), 10), (file.seek(-5, io.SEEK_END), len(content) - 5), (file.read(), content[-5:]))
+            check((file.read(1), b""), (file.seek(1 << 50), 1 << 50), (file.read(), b""), (file.seek(7), 7), (file.seek(3, io.SEEK_CUR), 10))
+            check((file.read() == content[10:], True), (raised(file.seek, -1), ValueError), (raised(file.seek, 0, 9), ValueError), (raised(file.write, b"a"), io.UnsupportedOperation))
+            check((file.seek(0), 0), (b"".join(iter(lambda: file.read(100000), b"")) == content, True))
+        check((raised(file.read), ValueError), (raised(file.read, 1), ValueError))
     lines = store.upload(b"first\nsecond\n", tenant).address
-    found += differences((list(store.open(tenant, lines)), [b"first\n", b"second\n"]), (io.TextIOWrapper(store.open(tenant, lines)).read(), "first\nsecond\n"))
-    found += differences((store.open(tenant, lines, 0).size, 13), (refusal(store.open, tenant, FOUR), ("S12", None)), (raised(store.open, tenant, "4"), ValueError))
+    check((list(store.open(tenant, lines)), [b"first\n", b"second\n"]), (io.TextIOWrapper(store.open(tenant, lines)).read(), "first\nsecond\n"))
+    check((store.open(tenant, lines, 0).size, 13), (refusal(store.open, tenant, FOUR), ("S12", None)), (raised(store.open, tenant, "4"), ValueError))
     with store.open(tenant, lines, 0) as file:
         store.forget(tenant, lines)
-        return found + differences((refusal(file.read, 1), ("S12", None)))
+        check((refusal(file.read, 1), ("S12", None)))
 
 
 @over_both
 def reads_into_buffers(store):
     tenant = store.tenant(LIMIT)
     address, room = store.upload(b"abcdef", tenant).address, bytearray(b"......")
-    found = differences((store.fetch_into(tenant, address, room, 2), 4), (room, b"cdef.."), (store.fetch_into(tenant, address, memoryview(room)[4:], 6), 0))
-    found += differences((store.fetch_into(tenant, address, memoryview(room)[5:]), 1), (room, b"cdef.a"), (store.fetch_into(tenant, address, b""[:0] or bytearray()), 0))
-    return found + differences(*((raised(store.fetch_into, tenant, address, wrong), TypeError) for wrong in (b"abc", "abc", None, 5)))
+    check((store.fetch_into(tenant, address, room, 2), 4), (room, b"cdef.."), (store.fetch_into(tenant, address, memoryview(room)[4:], 6), 0))
+    check((store.fetch_into(tenant, address, memoryview(room)[5:]), 1), (room, b"cdef.a"), (store.fetch_into(tenant, address, b""[:0] or bytearray()), 0))
+    check(*((raised(store.fetch_into, tenant, address, wrong), TypeError) for wrong in (b"abc", "abc", None, 5)))
 
 
 @over_both
 def iterates(store):
     """Over the journal in pages."""
-    tenant, found = store.tenant(LIMIT), []
+    tenant = store.tenant(LIMIT)
     for number in range(25):
         store.upload(b"%d" % number, tenant)
     entries = store.entries()
     for page_len in 1, 7, 76, 1000:
-        found += differences((list(store.journal(page_len=page_len)), entries), (list(store.journal(70, page_len)), entries[70:]))
-    found += differences((list(store.journal(1000)), []), *((raised(store.journal, 0, wrong), ValueError) for wrong in (0, -1)))
+        check((list(store.journal(page_len=page_len)), entries), (list(store.journal(70, page_len)), entries[70:]))
+    check((list(store.journal(1000)), []), *((raised(store.journal, 0, wrong), ValueError) for wrong in (0, -1)))
     half = store.journal(page_len=2)
-    found += differences((next(half), entries[0]), (store.stat().objects, 25), (next(half), entries[1]))
-    return found + differences((raised(store.journal, "0"), TypeError))
+    check((next(half), entries[0]), (store.stat().objects, 25), (next(half), entries[1]))
+    check((raised(store.journal, "0"), TypeError))
 
 
 @over_both
@@ -306,22 +304,23 @@ def by_asyncio(given):
         pieces = [piece async for piece in store.ranges(tenant, rows[-1].address, 1 << 20)]
         upload = await store.begin_open(tenant, 4096)
         held = await store.put(upload, 0, b"abc")
-        found = differences((fetched == contents, True), (b"".join(pieces) == contents[-1], True), (held, Held(3, None)), (await store.seal_as(upload, ABC), Filed(True, ABC, 3)))
-        found += differences((await store.run(store.store.size, tenant, ABC), 3))
-        found += differences((await store.has(tenant, FOUR), None), ((await store.usage(tenant)).reserved, 0), (len(await store.list(tenant)), len(LENGTHS) + 1))
-        found += differences(((await store.stat()).uploads, 0), (await store.forget(tenant, ABC), None), (await store.entries(0, 1), [f"tenant 0 {LIMIT}"]))
+        check((fetched == contents, True), (b"".join(pieces) == contents[-1], True), (held, Held(3, None)), (await store.seal_as(upload, ABC), Filed(True, ABC, 3)))
+        check((await store.run(store.store.size, tenant, ABC), 3))
+        check((await store.has(tenant, FOUR), None), ((await store.usage(tenant)).reserved, 0), (len(await store.list(tenant)), len(LENGTHS) + 1))
+        check(((await store.stat()).uploads, 0), (await store.forget(tenant, ABC), None), (await store.entries(0, 1), [f"tenant 0 {LIMIT}"]))
         try:
             await store.begin(tenant, LIMIT + 1)
         except Refused as refused:
-            found += differences((refused.number, "S6"), (await store.tenants(), {0: await store.usage(0)}))
-            return found + differences((await store.tenant(), 1), (await store.usage(1), Usage(0, 0, half_of_memory())))
-        return [*found, "nothing is refused"]
+            check((refused.number, "S6"), (await store.tenants(), {0: await store.usage(0)}))
+            check((await store.tenant(), 1), (await store.usage(1), Usage(0, 0, half_of_memory())))
+        else:
+            raise AssertionError("nothing is refused")
 
     async def run():
         async with AsyncStore(given) as store:
-            found = await work(store)
+            await work(store)
         await store.close()
-        return found + differences((raised(given.stat) in (ValueError, Ended), True), (raised(AsyncStore, "b3store"), TypeError))
+        check((raised(given.stat) in (ValueError, Ended), True), (raised(AsyncStore, "b3store"), TypeError))
 
     return asyncio.run(run())
 
@@ -331,6 +330,5 @@ def scales():
     with client_of_a_server(sessions=2) as store:
         tenant = store.tenant(LIMIT)
         taken = store._free.get()
-        found = differences((store.upload(b"abc", tenant).address, ABC), (store.stat(), Totals(1, 3, 0, 0, 0)), (store.usage(tenant), Usage(3, 0, LIMIT)))
+        check((store.upload(b"abc", tenant).address, ABC), (store.stat(), Totals(1, 3, 0, 0, 0)), (store.usage(tenant), Usage(3, 0, LIMIT)))
         store._free.put(taken)
-        return found

@@ -25,14 +25,16 @@ static b3_value value_of(const uint8_t *k, size_t k_len, const uint8_t *bytes, s
 static void whole_calls(const uint8_t *input, size_t len, uint8_t reported[3][TOLD]) {
     uint64_t count = 5;
     uint8_t *out = output_end - B3_HASH_LEN;
-    shows(b3_hash(input, len, out, 32, &count) == B3_DONE && memcmp(out, reported[0], 32) == 0 && count == 5 + work_of(len), "b3_hash", len);
+    shows(b3_hash_counted(input, len, out, 32, &count) == B3_DONE && memcmp(out, reported[0], 32) == 0 && count == 5 + work_of(len),
+          "b3_hash_counted", len);
     count = 0;
-    shows(b3_keyed_hash(key, 32, input, len, out, 32, &count) == B3_DONE && memcmp(out, reported[1], 32) == 0 && count == work_of(len),
-          "b3_keyed_hash", len);
+    shows(b3_keyed_hash_counted(key, 32, input, len, out, 32, &count) == B3_DONE && memcmp(out, reported[1], 32) == 0 &&
+              count == work_of(len),
+          "b3_keyed_hash_counted", len);
     count = 0;
-    shows(b3_derive_key(context, context_len, input, len, out, 32, &count) == B3_DONE && memcmp(out, reported[2], 32) == 0 &&
+    shows(b3_derive_key_counted(context, context_len, input, len, out, 32, &count) == B3_DONE && memcmp(out, reported[2], 32) == 0 &&
               count == work_of(context_len) + work_of(len),
-          "b3_derive_key", len);
+          "b3_derive_key_counted", len);
 }
 
 static void extended_calls(const uint8_t *input, size_t len, uint8_t reported[3][TOLD]) {
@@ -42,12 +44,27 @@ static void extended_calls(const uint8_t *input, size_t len, uint8_t reported[3]
             for (size_t more = 0; at + more <= TOLD; more += 37) {
                 uint64_t count = 0;
                 uint8_t *out = output_end - more;
-                same &= b3_extended(mode, key_of(mode), key_len_of(mode), input, len, at, out, more, &count) == B3_DONE &&
+                same &= b3_extended_counted(mode, key_of(mode), key_len_of(mode), input, len, at, out, more, &count) == B3_DONE &&
                         memcmp(out, reported[mode] + at, more) == 0 &&
                         count == mode_work(mode) + work_of(len) - 1 + touched(at, more);
             }
-        shows(same, "b3_extended", len);
+        shows(same, "b3_extended_counted", len);
     }
+}
+
+/* The calls without a count write the same. */
+static void calls_without_count(const uint8_t *input, size_t len, uint8_t reported[3][TOLD]) {
+    uint8_t *out = output_end - B3_HASH_LEN, *more = output_end - TOLD;
+    b3_hash(input, len, out);
+    shows(memcmp(out, reported[0], 32) == 0, "b3_hash", len);
+    b3_keyed_hash(key, input, len, out);
+    shows(memcmp(out, reported[1], 32) == 0, "b3_keyed_hash", len);
+    b3_derive_key(context, context_len, input, len, out);
+    shows(memcmp(out, reported[2], 32) == 0, "b3_derive_key", len);
+    for (uint32_t mode = 0; mode < 3; mode++)
+        shows(b3_extended(mode, key_of(mode), key_len_of(mode), input, len, 0, more, TOLD) == B3_DONE &&
+                  memcmp(more, reported[mode], TOLD) == 0,
+              "b3_extended", len);
 }
 
 static void node_calls(const uint8_t *input, size_t len, uint8_t reported[3][TOLD]) {
@@ -83,23 +100,25 @@ static void refusals(void) {
     uint8_t out[65];
     size_t lens[] = {0, 1, 31, 33, 64};
     for (size_t i = 0; i < sizeof lens / sizeof *lens; i++) {
-        REFUSED(B3_BAD_OUTPUT, b3_hash(input, 3, out, lens[i], &count));
-        REFUSED(B3_BAD_OUTPUT, b3_keyed_hash(key, 32, input, 3, out, lens[i], &count));
-        REFUSED(B3_BAD_KEY, b3_keyed_hash(key, lens[i], input, 3, out, lens[i], &count));
-        REFUSED(B3_BAD_OUTPUT, b3_derive_key(context, context_len, input, 3, out, lens[i], &count));
+        REFUSED(B3_BAD_OUTPUT, b3_hash_counted(input, 3, out, lens[i], &count));
+        REFUSED(B3_BAD_OUTPUT, b3_keyed_hash_counted(key, 32, input, 3, out, lens[i], &count));
+        REFUSED(B3_BAD_KEY, b3_keyed_hash_counted(key, lens[i], input, 3, out, lens[i], &count));
+        REFUSED(B3_BAD_OUTPUT, b3_derive_key_counted(context, context_len, input, 3, out, lens[i], &count));
         REFUSED(B3_BAD_OUTPUT, b3_root(key, 32, mark, mark, out, lens[i], &count));
-        REFUSED(B3_BAD_KEY, b3_extended(B3_KEYED_HASH, key, lens[i], input, 3, 0, out, 32, &count));
+        REFUSED(B3_BAD_KEY, b3_extended_counted(B3_KEYED_HASH, key, lens[i], input, 3, 0, out, 32, &count));
         if (lens[i] > 0) {
-            REFUSED(B3_BAD_KEY, b3_extended(B3_HASH, key, lens[i], input, 3, 0, out, 32, &count));
+            REFUSED(B3_BAD_KEY, b3_extended_counted(B3_HASH, key, lens[i], input, 3, 0, out, 32, &count));
             REFUSED(B3_BAD_KEY, b3_subtree(key, lens[i], input, 1024, 0, &value, &count));
             REFUSED(B3_BAD_KEY, b3_parent(key, lens[i], mark, mark, &value, &count));
             REFUSED(B3_BAD_KEY, b3_root(key, lens[i], mark, mark, out, 31, &count));
         }
     }
-    REFUSED(B3_BAD_KEY, b3_extended(3, key, 32, input, 3, 0, out, 32, &count));
-    REFUSED(B3_BAD_KEY, b3_extended(UINT32_MAX, key, 0, input, 3, 0, out, 32, &count));
-    REFUSED(B3_BAD_POSITION, b3_extended(B3_HASH, key, 0, input, 3, UINT64_MAX - 31, out, 32, &count));
-    REFUSED(B3_BAD_POSITION, b3_extended(3, key, 0, input, 3, UINT64_MAX, out, 1, &count));
+    REFUSED(B3_BAD_KEY, b3_extended_counted(3, key, 32, input, 3, 0, out, 32, &count));
+    REFUSED(B3_BAD_KEY, b3_extended_counted(UINT32_MAX, key, 0, input, 3, 0, out, 32, &count));
+    REFUSED(B3_BAD_POSITION, b3_extended_counted(B3_HASH, key, 0, input, 3, UINT64_MAX - 31, out, 32, &count));
+    REFUSED(B3_BAD_POSITION, b3_extended_counted(3, key, 0, input, 3, UINT64_MAX, out, 1, &count));
+    REFUSED(B3_BAD_KEY, b3_extended(3, key, 32, input, 3, 0, out, 32));
+    REFUSED(B3_BAD_POSITION, b3_extended(B3_HASH, key, 0, input, 3, UINT64_MAX, out, 1));
     REFUSED(B3_BAD_SUBTREE, b3_subtree(key, 0, input, 0, 1, &value, &count));
     REFUSED(B3_BAD_SUBTREE, b3_subtree(key, 0, input, 2048, 1, &value, &count));
     REFUSED(B3_BAD_SUBTREE, b3_subtree(key, 32, input, 2049, 2, &value, &count));
@@ -114,8 +133,9 @@ static void borders(void) {
     uint64_t count = UINT64_MAX - 1;
     uint8_t out[32];
     b3_value value;
-    shows(b3_extended(B3_HASH, key, 0, input, 3, UINT64_MAX - 32, out, 32, &count) == B3_DONE && count == UINT64_MAX, "the output's end", 3);
-    shows(b3_extended(B3_HASH, key, 0, input, 3, UINT64_MAX, out, 0, &count) == B3_DONE, "nothing at the output's end", 3);
+    shows(b3_extended_counted(B3_HASH, key, 0, input, 3, UINT64_MAX - 32, out, 32, &count) == B3_DONE && count == UINT64_MAX,
+          "the output's end", 3);
+    shows(b3_extended_counted(B3_HASH, key, 0, input, 3, UINT64_MAX, out, 0, &count) == B3_DONE, "nothing at the output's end", 3);
     shows(b3_subtree(key, 0, input, 1023, ((uint64_t)1 << 54) - 1, &value, &count) == B3_DONE, "the last chunk of all", 1023);
 }
 
@@ -125,15 +145,6 @@ static void version(void) {
     shows(b3_version() == B3_VERSION_NUMBER && strcmp(text, B3_VERSION) == 0, "the version", B3_VERSION_NUMBER);
 }
 
-/* A count that is thrown away changes nothing else. */
-static void no_count(void) {
-    const uint8_t *input = input_of(2049);
-    uint64_t count = 0;
-    uint8_t counted[32], out[32];
-    b3_hash(input, 2049, counted, 32, &count);
-    shows(b3_hash(input, 2049, out, 32, B3_NO_COUNT) == B3_DONE && memcmp(out, counted, 32) == 0, "B3_NO_COUNT", 2049);
-}
-
 static void *hash_often(void *of) {
     struct task *task = of;
     task->same = 1;
@@ -141,9 +152,9 @@ static void *hash_often(void *of) {
         uint8_t out[32];
         uint64_t count = 0;
         if (task->mode)
-            b3_keyed_hash(key, 32, task->input, MOST, out, 32, &count);
+            b3_keyed_hash_counted(key, 32, task->input, MOST, out, 32, &count);
         else
-            b3_hash(task->input, MOST, out, 32, &count);
+            b3_hash_counted(task->input, MOST, out, 32, &count);
         task->same &= memcmp(out, task->reported, 32) == 0 && count == work_of(MOST);
     }
     return NULL;
@@ -158,6 +169,7 @@ int main(int argc, char **argv) {
         const uint8_t *input = input_of(len);
         whole_calls(input, len, reported);
         extended_calls(input, len, reported);
+        calls_without_count(input, len, reported);
         if (len > B3_CHUNK_LEN)
             node_calls(input, len, reported);
         if (len == MOST)
@@ -166,6 +178,5 @@ int main(int argc, char **argv) {
     refusals();
     borders();
     version();
-    no_count();
     return ends();
 }

@@ -86,14 +86,14 @@ static void copies(const uint8_t *input, size_t len, uint8_t reported[3][TOLD]) 
         b3_hasher_init(hasher, mode, key_of(mode), key_len_of(mode), &count);
         b3_hasher_update(hasher, input, len / 2, &count);
         memcpy(copy, hasher, sizeof *copy);
-        b3_extended(mode, key_of(mode), key_len_of(mode), input, len / 2, 0, first, 32, &count);
+        b3_extended(mode, key_of(mode), key_len_of(mode), input, len / 2, 0, first, 32);
         int same = finds(hasher, first, &count);
         b3_hasher_update(hasher, input + len / 2, len - len / 2, &count);
         same &= finds(hasher, reported[mode], &count) && finds(copy, first, &count) && finds(hasher, reported[mode], &count);
         uint8_t *twice = malloc(len + 1);
         memcpy(twice, input, len / 2);
         memcpy(twice + len / 2, input, len / 2);
-        b3_extended(mode, key_of(mode), key_len_of(mode), twice, len / 2 * 2, 0, other, 32, &count);
+        b3_extended(mode, key_of(mode), key_len_of(mode), twice, len / 2 * 2, 0, other, 32);
         b3_hasher_update(copy, input, len / 2, &count);
         same &= finds(copy, other, &count) && finds(hasher, reported[mode], &count);
         same &= b3_hasher_update(copy, input, 0, &count) == B3_DONE && finds(copy, other, &count);

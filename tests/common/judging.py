@@ -16,7 +16,7 @@ def judged(cases):
         try:
             found = case()
         except Exception as fault:
-            found = [f"{type(fault).__name__}: {fault}"]
+            found = [str(fault) if isinstance(fault, AssertionError) else f"{type(fault).__name__}: {fault}"]
         if found:
             failed += 1
             print(f"FAILED {name}: " + "; ".join(found))
@@ -31,10 +31,17 @@ def differences(*pairs):
     return [f"{found!r}"[:300] + f", not {wanted!r}"[:300] for found, wanted in pairs if found != wanted]
 
 
-def wait_until(check, seconds=SECONDS_TO_WAIT):
+def check(*pairs):
+    """Raises AssertionError unless the first value of each pair is the second one."""
+    found = differences(*pairs)
+    if found:
+        raise AssertionError("; ".join(found))
+
+
+def wait_until(holds, seconds=SECONDS_TO_WAIT):
     """Whether something becomes true in time."""
     end = time.monotonic() + seconds
-    while not check():
+    while not holds():
         if time.monotonic() > end:
             return False
         time.sleep(SECONDS_BETWEEN_LOOKS)

@@ -5,7 +5,7 @@
 - An upload allocates at most 1.5 times as many bytes as its input has.
 - A fetch of an object that is 64 times as long allocates no more memory, and of a line that is too long for a command no more bytes are kept
   than of the longest command.
-- `sum` and `check` of a long file use the buffers of as many threads as `--threads` says, and no more than docs/COMMANDS.md says.
+- `sum` and `check` of a long file use the buffers of as many threads as `--threads` says, and no more than docs/USE.md says.
 - What is forgotten is freed, and so are the parts of an upload that was aborted or sealed as known: thousands of rounds of each take no more
   memory than hundreds, except for the entries of the journal.
 

@@ -1,6 +1,6 @@
 """python3 tests/random PROGRAM [--cases N] [--seed S]: runs the program on random scripts, sessions, journals, check files, uploads and
 inputs of `sum`, and compares its output with that of the second implementation, tests/second_reading, which was written from
-docs/FORMATS.md.
+docs/PROTOCOL.md and docs/FORMATS.md.
 
 A case that differs is printed after FAILED with its seed; `--cases 1 --seed S` runs it again. The last line is
 `N passed, M failed`.

@@ -1,4 +1,4 @@
-"""A second reading of what standard error says of refused lines, from docs/COMMANDS.md."""
+"""A second reading of what standard error says of refused lines, from docs/PROTOCOL.md and docs/USE.md."""
 from check_files import check_line_of, verdict_on
 from script import FORMS, call_of
 

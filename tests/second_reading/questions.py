@@ -1,4 +1,4 @@
-"""The questions that a session has and a script does not: the line that asks each, as docs/COMMANDS.md has it, and its answer by the model."""
+"""The questions that a session has and a script does not: the line that asks each, as docs/PROTOCOL.md has it, and its answer by the model."""
 import re
 
 MAX_REDO_ENTRIES, MAX_REDO_BYTES = 4096, 1 << 22

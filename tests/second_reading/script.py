@@ -1,4 +1,4 @@
-"""Reads a script's lines as docs/FORMATS.md defines them, and answers them by the model."""
+"""Reads a script's lines as docs/PROTOCOL.md defines them, and answers them by the model."""
 import re
 
 from store import Refused, Store

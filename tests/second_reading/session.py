@@ -1,4 +1,4 @@
-"""Reads a session's input as docs/FORMATS.md and docs/COMMANDS.md define it, and answers it by the model."""
+"""Reads a session's input as docs/PROTOCOL.md defines it, and answers it by the model."""
 import contextlib
 import re
 

@@ -1,5 +1,5 @@
 """python3 tests/store_c/random_calls.py LIBRARY [--cases N] [--seed S]: makes random calls of the shared library libb3store, and compares what they
-store and return with the answers of the second implementation, tests/second_reading, which was written from docs/FORMATS.md.
+store and return with the answers of the second implementation, tests/second_reading, which was written from docs/PROTOCOL.md.
 
 A case is a random session of tests/random, on a store with random limits. Each of its lines is answered by calls (library.py), or some by
 b3store_lines; between them bytes are filed in one call, and parts are put that were prepared for other uploads. A case that differs is printed

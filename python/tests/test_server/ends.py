@@ -10,15 +10,10 @@ import tempfile
 import threading
 import time
 from typing import Any, List, Tuple
-from unittest import mock
 
-from judging import SECONDS_TO_WAIT, differences, wait_until
+from judging import SECONDS_TO_WAIT, check, wait_until
 from lines import SHORTLY
-from running import AS_MODULE, CLEAN, PACKAGE, SECONDS, WITH_FEW_FILES, Client, Running, environment, fails, is_listening, is_running
-
-sys.path.insert(1, PACKAGE)
-from b3store import listening
-from b3store.server_store import StoreProcess
+from running import AS_MODULE, CLEAN, SECONDS, WITH_FEW_FILES, Client, Running, environment, fails, is_listening, is_running
 
 WITH_NOHUP = (
     "import runpy, signal; signal.signal(signal.SIGHUP, signal.SIG_IGN); runpy.run_module('b3store.server', run_name='__main__', alter_sys=True)"
@@ -48,34 +43,34 @@ def _script(folder: str, text: str) -> str:
     return path
 
 
-def busy(program: str) -> List[str]:
+def busy(program: str) -> None:
     """A connection above N waits, has its turn when another ends, and is sent `busy` after a time; then nothing that it sent was done."""
     with Running(program, "--sessions", "1", "--wait", "1") as server, server.client() as first:
         first.ask("tenant 5000")
         start = time.monotonic()
         with server.client() as late:
             late.send(b"limit 0 4000\n")
-            found = differences((late.remaining(), b"busy\n"), (0.9 < time.monotonic() - start < SECONDS_TO_WAIT, True))
-        found += differences((first.ask("usage 0"), b"used 0 reserved 0 limit 5000\n"), (first.ends(), b""), (server.end(), CLEAN))
+            check((late.remaining(), b"busy\n"), (0.9 < time.monotonic() - start < SECONDS_TO_WAIT, True))
+        check((first.ask("usage 0"), b"used 0 reserved 0 limit 5000\n"), (first.ends(), b""), (server.end(), CLEAN))
     with Running(program, "--sessions", "2", "--wait", "0") as server, server.client() as first:
-        found += differences((first.ask("tenants"), b"tenants 0\n"))
+        check((first.ask("tenants"), b"tenants 0\n"))
         for _ in range(50):
             with server.client() as other:
-                found += differences((other.ask("tenants"), b"tenants 0\n"))
+                check((other.ask("tenants"), b"tenants 0\n"))
                 with server.client() as late:
-                    found += differences((late.remaining(), b"busy\n"))
-            found += differences((wait_until(lambda: server.sessions() == 1), True))
-        found += differences((first.ends(), b""), (server.end(), CLEAN))
+                    check((late.remaining(), b"busy\n"))
+            check((wait_until(lambda: server.sessions() == 1), True))
+        check((first.ends(), b""), (server.end(), CLEAN))
     with Running(program, "--sessions", "1", "--wait", "60") as server, server.client() as first:
         first.ask("tenant 5000")
         with server.client() as following:
             following.send(b"usage 0\n")
             threading.Timer(SHORTLY, first.close).start()
-            found += differences((following.answer(), b"used 0 reserved 0 limit 5000\n"), (following.ends(), b""))
-        return found + differences((server.end(), CLEAN))
+            check((following.answer(), b"used 0 reserved 0 limit 5000\n"), (following.ends(), b""))
+        check((server.end(), CLEAN))
 
 
-def turns_in_order(program: str) -> List[str]:
+def turns_in_order(program: str) -> None:
     """Those that wait have their turns in the order in which they came."""
     with Running(program, "--sessions", "2", "--wait", "60") as server:
         clients, served = [server.client() for _ in range(10)], []
@@ -86,10 +81,10 @@ def turns_in_order(program: str) -> List[str]:
             client.answer()
             served.append(number)
             client.close()
-        return differences((served, list(range(10))), (server.end(), CLEAN))
+        check((served, list(range(10))), (server.end(), CLEAN))
 
 
-def many_at_once(program: str) -> List[str]:
+def many_at_once(program: str) -> None:
     """Two hundred connections at once over four sessions are all served, some of which say nothing, and leave no open file, no thread and no pipe."""
     with Running(program, "--sessions", "4", "--wait", "60") as server:
 
@@ -98,7 +93,7 @@ def many_at_once(program: str) -> List[str]:
             names = os.listdir(os.path.join(server.temporary, os.listdir(server.temporary)[0]))
             return len(os.listdir(f"{at}/fd")), len(os.listdir(f"{at}/task")), names
 
-        before, found = kept(), []
+        before = kept()
         for _ in range(2):
             clients = [server.client() for _ in range(200)]
             for number, client in enumerate(clients):
@@ -107,18 +102,18 @@ def many_at_once(program: str) -> List[str]:
             answers = [client.remaining() for client in clients]
             for client in clients:
                 client.close()
-            found += differences(({*answers[1::3], *answers[2::3]}, {b"objects 0 bytes 0 uploads 0 held 0 parts 0\n"}), ({*answers[::3]}, {b""}))
-        return found + differences((wait_until(lambda: kept() == before), True), (before[2], ["door"]), (server.end(), CLEAN))
+            check(({*answers[1::3], *answers[2::3]}, {b"objects 0 bytes 0 uploads 0 held 0 parts 0\n"}), ({*answers[::3]}, {b""}))
+        check((wait_until(lambda: kept() == before), True), (before[2], ["door"]), (server.end(), CLEAN))
 
 
-def too_few_files(program: str) -> List[str]:
+def too_few_files(program: str) -> None:
     """Connections for which there are no open files left are closed or wait, the server says so, and serves again once others have ended."""
     with Running(program, "--sessions", "16", "--wait", "60", python=WITH_FEW_FILES) as server:
         with server.client() as first:
             first.ask("tenant 5000")
             first.ask("begin 0 5")
             clients = [server.client() for _ in range(60)]
-            found = differences((wait_until(lambda: "Too many open files" in server.reported()), True))
+            check((wait_until(lambda: "Too many open files" in server.reported()), True))
             for client in clients:
                 client.close()
 
@@ -128,33 +123,31 @@ def too_few_files(program: str) -> List[str]:
                 return (last.ask("uploads 0"), last.ask("usage 0"), last.ends()) == (b"uploads 0\n", b"used 0 reserved 0 limit 5000\n", b"")
             return False
 
-        found += differences((wait_until(serves_again), True))
+        check((wait_until(serves_again), True))
         status, told, left = server.end()
-        return found + differences((status, 0), ("Traceback" in told, False), (left, []))
+        check((status, 0), ("Traceback" in told, False), (left, []))
 
 
-def connections_without_memory(program: str) -> List[str]:
+def connections_without_memory(program: str) -> None:
     """A connection for which there is no memory at first is accepted later, and what the store has is kept."""
     with Running(program, python=["-c", STARVED_AT_FIRST]) as server, server.client() as client:
-        found = differences((client.ask("tenants"), b"tenants 0\n"), (client.ends(), b""))
-        return found + differences((server.end(), (0, "b3store.server: a connection can't be accepted: out of memory\n", [])))
+        check((client.ask("tenants"), b"tenants 0\n"), (client.ends(), b""))
+        check((server.end(), (0, "b3store.server: a connection can't be accepted: out of memory\n", [])))
 
 
-def closed_streams(program: str) -> List[str]:
+def closed_streams(program: str) -> None:
     """A server without standard streams, or whose output is full, serves its clients."""
-    found = []
     for redirections in "<&- >&- 2>&-", ">&-", ">/dev/full 2>/dev/full":
         with tempfile.TemporaryDirectory() as folder:
             path = f"{folder}/socket"
             words = [sys.executable, *AS_MODULE, "--socket", path, "--program", program]
             shell = ["/bin/sh", "-c", f'exec "$@" {redirections}', "sh", *words]
             with subprocess.Popen(shell, env=environment(folder, {}), start_new_session=True) as server:
-                found += differences((wait_until(lambda: is_listening(path)), True))
+                check((wait_until(lambda: is_listening(path)), True))
                 with Client(path) as client:
-                    found += differences((client.ask("tenants"), b"tenants 0\n"), (client.ends(), b""))
+                    check((client.ask("tenants"), b"tenants 0\n"), (client.ends(), b""))
                 server.terminate()
-                found += differences((server.wait(SECONDS), 0), (os.listdir(folder), []))
-    return found
+                check((server.wait(SECONDS), 0), (os.listdir(folder), []))
 
 
 def _full_pipe(stack: contextlib.ExitStack) -> int:
@@ -170,7 +163,7 @@ def _full_pipe(stack: contextlib.ExitStack) -> int:
     return writing
 
 
-def streams_without_room(program: str) -> List[str]:
+def streams_without_room(program: str) -> None:
     """What a server can't report, since nobody reads its streams, keeps no client out, and doesn't keep it from saving."""
     with tempfile.TemporaryDirectory() as folder, contextlib.ExitStack() as stack:
         path, full = f"{folder}/socket", _full_pipe(stack)
@@ -178,15 +171,14 @@ def streams_without_room(program: str) -> List[str]:
         command = [sys.executable, *AS_MODULE, "--program", program, *words]
         server = stack.enter_context(subprocess.Popen(command, stdout=full, stderr=full, env=environment(folder, {})))
         stack.callback(server.kill)
-        found = differences((wait_until(lambda: is_listening(path)), True))
+        check((wait_until(lambda: is_listening(path)), True))
         with Client(path) as client:
-            found += differences((client.ask("tenants"), b"tenants 0\n"))
+            check((client.ask("tenants"), b"tenants 0\n"))
             server.terminate()
-            found += differences((server.wait(SECONDS), 0), (os.path.exists(path), False))
-        return found
+            check((server.wait(SECONDS), 0), (os.path.exists(path), False))
 
 
-def too_large_for_the_store(program: str) -> List[str]:
+def too_large_for_the_store(program: str) -> None:
     """What has no room in the memory that the store may take is refused. The store still gives what it has, and takes more once the client has left."""
     with Running(program, "--memory", "256M") as server, server.client() as other:
         other.ask(f"tenant {1 << 46}")
@@ -198,30 +190,15 @@ def too_large_for_the_store(program: str) -> List[str]:
             while answer.startswith(b"held") and count < 300:
                 count += 1
                 answer = client.ask(f"putb {upload} {count << 20} {len(part)}", part)
-            found = differences((answer, b"refused S14\n"), (100 < count < 256, True), (other.ask(f"fetchb 0 {address}"), kept), (client.ends(), b""))
-        found += differences((wait_until(lambda: other.uploads() == []), True), (len(other.file(bytes(1 << 20))), 64))
+            check((answer, b"refused S14\n"), (100 < count < 256, True), (other.ask(f"fetchb 0 {address}"), kept), (client.ends(), b""))
+        check((wait_until(lambda: other.uploads() == []), True), (len(other.file(bytes(1 << 20))), 64))
         with server.client() as client:
-            found += differences((client.ask(f"fetchb 0 {address}"), kept), (client.ends(), b""))
-        return found + differences((other.ends(), b""), (server.end(), CLEAN))
+            check((client.ask(f"fetchb 0 {address}"), kept), (client.ends(), b""))
+        check((other.ends(), b""), (server.end(), CLEAN))
 
 
-def too_many_for_the_store(program: str) -> List[str]:
-    """Commands that fill the journal are refused once it has no room, and the store still gives what it has."""
-    with Running(program, "--memory", "64M") as server, server.client() as client, server.client() as other:
-        other.ask("tenant 5000")
-        address = other.file(b"kept")
-        kept, answers, number = other.ask(f"fetchb 0 {address}"), {b"ok\n"}, 1
-        while answers == {b"ok\n"} and number < 3_000_000:
-            client.send(b"".join(b"open 0 1\nabort %d\n" % at for at in range(number, number + 300)))
-            answers = {answer for answer in [client.answer() for _ in range(600)] if not answer.startswith(b"upload ")}
-            number += 300
-        found = differences((b"refused S14\n" in answers, True), (other.ask(f"fetchb 0 {address}"), kept), (other.ask("stat")[:10], b"objects 1 "))
-        return found + differences((client.ends(), b""), (other.ends(), b""), (server.end()[0], 0))
-
-
-def wrong_words(program: str) -> List[str]:
+def wrong_words(program: str) -> None:
     """Each has status 2 and a line that names it."""
-    found = []
     for words, wanted in (
         (["--sessions", "0"], "'0'"),
         (["--sessions", "65"], "'65'"),
@@ -240,51 +217,50 @@ def wrong_words(program: str) -> List[str]:
         (["more"], "more"),
     ):
         status, told = fails("--program", program, "--socket", "/nowhere/at/all", *words)
-        found += differences((status, 2), (wanted in told and "Traceback" not in told, True))
-    return found + differences((fails("--program", program), (1, "b3store.server: nothing to listen on: give --socket PATH\n")))
+        check((status, 2), (wanted in told and "Traceback" not in told, True))
+    check((fails("--program", program), (1, "b3store.server: nothing to listen on: give --socket PATH\n")))
 
 
-def files_of_sockets(program: str) -> List[str]:
+def files_of_sockets(program: str) -> None:
     """The socket has mode 0600 and is removed. A stale one is replaced; one that is listened on, or no socket, is an error and stays."""
     with Running(program) as server:
         mode = os.lstat(server.path).st_mode
-        found = differences((stat.S_ISSOCK(mode), True), (stat.S_IMODE(mode), 0o600))
+        check((stat.S_ISSOCK(mode), True), (stat.S_IMODE(mode), 0o600))
         words = ("--program", program, "--socket")
-        found += differences((fails(*words, server.path), (1, f"b3store.server: {server.path} is in use: another process listens on it\n")))
+        check((fails(*words, server.path), (1, f"b3store.server: {server.path} is in use: another process listens on it\n")))
         with server.client() as client:
-            found += differences((client.ask("tenants"), b"tenants 0\n"))
+            check((client.ask("tenants"), b"tenants 0\n"))
         os.rename(server.path, f"{server.folder}/other")
         with open(server.path, "w", encoding="ascii") as file:
             file.write("kept")
-        found += differences((fails(*words, server.path), (1, f"b3store.server: {server.path} exists and is not a socket\n")))
-        found += differences((fails(*words, f"{server.folder}/a/b"), (1, f"b3store.server: cannot listen on {server.folder}/a/b: No such file or directory\n")))
+        check((fails(*words, server.path), (1, f"b3store.server: {server.path} exists and is not a socket\n")))
+        check((fails(*words, f"{server.folder}/a/b"), (1, f"b3store.server: cannot listen on {server.folder}/a/b: No such file or directory\n")))
         status, told = fails(*words, f"{server.folder}/{'a' * 120}")
-        found += differences((status, 1), ("path too long" in told and told.count("\n") == 1, True))
-        return found + differences((server.end(), (0, "", ["other", "socket"])))
+        check((status, 1), ("path too long" in told and told.count("\n") == 1, True))
+        check((server.end(), (0, "", ["other", "socket"])))
 
 
-def stale_sockets(program: str) -> List[str]:
+def stale_sockets(program: str) -> None:
     """The socket of a server that was killed is replaced."""
     with Running(program) as server:
         store = server.store()
         server.signal(signal.SIGKILL)
         server.status()
-        found = differences((os.path.exists(server.path), True), (wait_until(lambda: not is_running(store)), True))
+        check((os.path.exists(server.path), True), (wait_until(lambda: not is_running(store)), True))
         words = [sys.executable, *AS_MODULE, "--program", program, "--socket", server.path]
         with subprocess.Popen(words, stdout=subprocess.PIPE, env=environment(server.temporary, {})) as second:
             assert second.stdout
             second.stdout.readline()
             with server.client() as client:
-                found += differences((client.ask("tenants"), b"tenants 0\n"))
+                check((client.ask("tenants"), b"tenants 0\n"))
             second.terminate()
-            found += differences((second.wait(SECONDS), 0))
-        return found + differences((os.path.exists(server.path), False))
+            check((second.wait(SECONDS), 0))
+        check((os.path.exists(server.path), False))
 
 
-def programs_that_are_none(program: str) -> List[str]:
+def programs_that_are_none(program: str) -> None:
     """A program that is missing, can't be run, ends at once or is no store: one line, status 1, and nothing is left."""
     del program
-    found = []
     for text, wanted in (
         (None, "cannot start {}: No such file or directory"),
         ("exit 3\n", "{} ended with status 3 before it answered"),
@@ -298,47 +274,26 @@ def programs_that_are_none(program: str) -> List[str]:
             if text is not None:
                 _script(folder, text)
             told = fails("--socket", f"{folder}/socket", "--program", path, temporary=temporary)
-            found += differences((told, (1, f"b3store.server: {wanted.format(path)}\n")))
-            found += differences((os.listdir(temporary), []), (os.path.exists(f"{folder}/socket"), False))
-    return found
+            check((told, (1, f"b3store.server: {wanted.format(path)}\n")))
+            check((os.listdir(temporary), []), (os.path.exists(f"{folder}/socket"), False))
 
 
-def processes_that_are_killed(program: str) -> List[str]:
-    """If the store is killed, the server says so, with its status, and ends with 3; if the server is killed, the store ends. Clients see the end, whatever they
-    do."""
-    found: List[str] = []
-    for kills_store in True, False:
-        with Running(program) as server, server.client() as client, server.client() as silent:
-            client.ask("tenant 1000000000")
-            silent.send(f"fetchb 0 {client.file(bytes(1 << 20))}\n".encode() * 100)
-            found += differences((wait_until(lambda server=server: server.sessions() == 2), True))
-            time.sleep(SHORTLY)
-            processes = server.children()
-            os.kill(server.store() if kills_store else server.process.pid, signal.SIGKILL)
-            found += differences((client.remaining(), b""), (server.status(), 3 if kills_store else -signal.SIGKILL))
-            found += differences((wait_until(lambda processes=processes: not any(map(is_running, processes))), True))
-            told = "b3store.server: the store ended with status -9, killed by SIGKILL; everything in it is lost\n"
-            found += differences((server.reported(), told if kills_store else ""), (server.left() == [], kills_store))
-    return found
-
-
-def ends_in_time(program: str) -> List[str]:
+def ends_in_time(program: str) -> None:
     """After SIGTERM those that are served go on, new ones are refused, those that wait are sent `busy`; the server ends with the last."""
     with Running(program, "--sessions", "1", "--grace", "60") as server, server.client() as client, server.client() as waiting:
         client.ask("tenant 5000")
         client.send(b"begin 0 3\nputb 0 0 3\na")
-        found = differences((client.line(), b"upload 0\n"), (wait_until(lambda: server.connections() == 2), True))
+        check((client.line(), b"upload 0\n"), (wait_until(lambda: server.connections() == 2), True))
         server.signal()
-        found += differences((waiting.remaining(), b"busy\n"), (wait_until(lambda: not os.path.exists(server.path)), True))
+        check((waiting.remaining(), b"busy\n"), (wait_until(lambda: not os.path.exists(server.path)), True))
         client.send(b"bc")
-        found += differences((client.line(), b"held 3 all\n"), (client.ask("seal 0").split()[0], b"new"), (server.process.poll(), None))
-        found += differences((client.ends(), b""), (server.status(), 0))
-        return found + differences((server.reported(), ""), (server.left(), []))
+        check((client.line(), b"held 3 all\n"), (client.ask("seal 0").split()[0], b"new"), (server.process.poll(), None))
+        check((client.ends(), b""), (server.status(), 0))
+        check((server.reported(), ""), (server.left(), []))
 
 
-def ends_by_force(program: str) -> List[str]:
+def ends_by_force(program: str) -> None:
     """A connection that is open after the grace is ended; a second signal ends the wait; SIGINT and SIGHUP have the same effect as SIGTERM."""
-    found = []
     for numbers, grace, wanted in (
         ([signal.SIGTERM], "1", 1.0), ([signal.SIGTERM] * 2, "60", 0.0), ([signal.SIGINT] * 2, "60", 0.0), ([signal.SIGHUP] * 2, "60", 0.0),
         ([signal.SIGTERM], "0", 0.0),
@@ -347,25 +302,24 @@ def ends_by_force(program: str) -> List[str]:
             client.ask("tenant 1000000000")
             address = client.file(bytes(1 << 20))
             silent.send(f"fetchb 0 {address}\n".encode() * 100)
-            found += differences((wait_until(lambda: server.sessions() == 2), True))
+            check((wait_until(lambda: server.sessions() == 2), True))
             time.sleep(SHORTLY)
             start = time.monotonic()
             for number in numbers:
                 os.killpg(server.process.pid, number)
                 # a signal that comes before the one before it was seen is not counted
-                found += differences((wait_until(lambda: not os.path.exists(server.path)), True))
+                check((wait_until(lambda: not os.path.exists(server.path)), True))
             told = (server.status(), server.reported())
-            found += differences((told, (0, "b3store.server: the server ends while 2 connections are open\n")), (server.left(), []), (client.remaining(), b""))
-            found += differences((wanted <= time.monotonic() - start < wanted + SECONDS_TO_WAIT, True))
-    return found
+            check((told, (0, "b3store.server: the server ends while 2 connections are open\n")), (server.left(), []), (client.remaining(), b""))
+            check((wanted <= time.monotonic() - start < wanted + SECONDS_TO_WAIT, True))
 
 
-def hangs_up(program: str) -> List[str]:
+def hangs_up(program: str) -> None:
     """Under nohup SIGHUP has no effect."""
     with Running(program, python=["-c", WITH_NOHUP]) as server, server.client() as client:
         server.signal(signal.SIGHUP)
         time.sleep(SHORTLY)
-        return differences((client.ask("tenants"), b"tenants 0\n"), (client.ends(), b""), (server.end(), CLEAN))
+        check((client.ask("tenants"), b"tenants 0\n"), (client.ends(), b""), (server.end(), CLEAN))
 
 
 def _notified(listening: socket.socket) -> bytes:
@@ -373,26 +327,24 @@ def _notified(listening: socket.socket) -> bytes:
     return listening.recv(100)
 
 
-def notifications(program: str) -> List[str]:
+def notifications(program: str) -> None:
     """The server reports to systemd when it is ready and when it stops, at a path and at an abstract name. While clients last, it asks for more time. If
     systemd takes no reports, it serves and ends all the same."""
-    found = []
     with tempfile.TemporaryDirectory() as folder:
         for name, address in (f"{folder}/notify", f"{folder}/notify"), (f"@b3store-test-{os.getpid()}", f"\0b3store-test-{os.getpid()}"):
             with socket.socket(socket.AF_UNIX, socket.SOCK_DGRAM) as listening, socket.socket(socket.AF_UNIX, socket.SOCK_DGRAM) as sender:
                 listening.bind(address)
                 with Running(program, "--grace", "60", NOTIFY_SOCKET=name) as server, server.client() as client:
-                    found += differences((client.ask("tenants"), b"tenants 0\n"), (_notified(listening), b"READY=1"))
+                    check((client.ask("tenants"), b"tenants 0\n"), (_notified(listening), b"READY=1"))
                     server.signal()
-                    found += differences((_notified(listening), b"STOPPING=1"), (_notified(listening), b"EXTEND_TIMEOUT_USEC=60000000"))
-                    found += differences((client.ask("tenants"), b"tenants 0\n"), (client.ends(), b""), (server.status(), 0))
+                    check((_notified(listening), b"STOPPING=1"), (_notified(listening), b"EXTEND_TIMEOUT_USEC=60000000"))
+                    check((client.ask("tenants"), b"tenants 0\n"), (client.ends(), b""), (server.status(), 0))
                 sender.setblocking(False)
                 with contextlib.suppress(BlockingIOError):
                     while True:
                         sender.sendto(b"x", address)
                 with Running(program, NOTIFY_SOCKET=name) as server:
-                    found += differences((server.end(), CLEAN))
-    return found
+                    check((server.end(), CLEAN))
 
 
 PASSING = "import os, sys; os.environ['LISTEN_PID'] = str(os.getpid()); os.execv(sys.argv[1], sys.argv[1:])"
@@ -416,19 +368,18 @@ def _vsock(stack: contextlib.ExitStack) -> List[socket.socket]:
     return []
 
 
-def sockets_that_are_passed(program: str) -> List[str]:
+def sockets_that_are_passed(program: str) -> None:
     """The server listens on what systemd passes, and leaves its file. What is no listening Unix-domain socket is an error."""
-    found = []
     with tempfile.TemporaryDirectory() as folder, socket.socket(socket.AF_UNIX) as passed:
         path = os.path.join(folder, "socket")
         passed.bind(path)
         passed.listen(5)
         with _passing(["--program", program], passed, folder) as server:
-            found += differences((server.stdout.readline(), f"b3store.server: listening on {path}\n".encode()))
+            check((server.stdout.readline(), f"b3store.server: listening on {path}\n".encode()))
             with Client(path) as client:
-                found += differences((client.ask("tenants"), b"tenants 0\n"), (client.ends(), b""))
+                check((client.ask("tenants"), b"tenants 0\n"), (client.ends(), b""))
             server.terminate()
-            found += differences((server.wait(SECONDS), 0), (os.path.exists(path), True), (server.stderr.read(), b""))
+            check((server.wait(SECONDS), 0), (os.path.exists(path), True), (server.stderr.read(), b""))
         with socket.socket(socket.AF_UNIX) as silent, socket.socket() as tcp, contextlib.ExitStack() as stack:
             tcp.bind(("127.0.0.1", 0))
             tcp.listen(1)
@@ -436,54 +387,5 @@ def sockets_that_are_passed(program: str) -> List[str]:
             for other in (silent, tcp, *_vsock(stack)):
                 with _passing(["--program", program], other, folder) as server:
                     out, told = server.communicate(timeout=SECONDS)
-                    found += differences((server.returncode, 1), (out, b""), (wanted in told and told.count(b"\n") == 1, True))
-    return found + differences((fails("--program", program, variables={"LISTEN_FDS": "1", "LISTEN_PID": "1"})[0], 1))
-
-
-def ends_without_a_signal(program: str) -> List[str]:
-    """A store whose process has ended is not usable, also before the main thread has asked for the status."""
-    del program
-    store = StoreProcess.__new__(StoreProcess)
-    store._is_closing = False
-    with subprocess.Popen(["cat"], stdin=subprocess.PIPE) as process:
-        store._process = process
-        found = differences((store.is_usable(), True))
-        process.kill()
-        return found + differences((wait_until(lambda: not is_running(process.pid)), True), (store.is_usable(), False))
-
-
-def removed_while_listening(program: str) -> List[str]:
-    """The file of a socket is removed while the socket still listens: otherwise another server could have replaced it meanwhile."""
-    del program
-    seen: List[bool] = []
-    with tempfile.TemporaryDirectory() as folder:
-        path, unlink = os.path.join(folder, "socket"), os.unlink
-        listener = listening.listen_at(path)
-        with mock.patch.object(os, "unlink", lambda name: (seen.append(is_listening(name)), unlink(name))):
-            listener.close()
-        return differences((seen, [True]), (os.listdir(folder), []), (listener.socket.fileno(), -1))
-
-
-ENDS = (
-    ("more connections than sessions", busy),
-    ("turns in order", turns_in_order),
-    ("hundreds at once", many_at_once),
-    ("too few files", too_few_files),
-    ("a connection without memory", connections_without_memory),
-    ("closed streams", closed_streams),
-    ("streams without room", streams_without_room),
-    ("a client that puts without end", too_large_for_the_store),
-    ("a client whose commands never end", too_many_for_the_store),
-    ("wrong words", wrong_words),
-    ("files of sockets", files_of_sockets),
-    ("stale sockets", stale_sockets),
-    ("programs that are none", programs_that_are_none),
-    ("processes that are killed", processes_that_are_killed),
-    ("an end in time", ends_in_time),
-    ("an end by force", ends_by_force),
-    ("hang-ups", hangs_up),
-    ("notifications", notifications),
-    ("sockets that are passed", sockets_that_are_passed),
-    ("ends without a signal", ends_without_a_signal),
-    ("sockets that are removed", removed_while_listening),
-)
+                    check((server.returncode, 1), (out, b""), (wanted in told and told.count(b"\n") == 1, True))
+    check((fails("--program", program, variables={"LISTEN_FDS": "1", "LISTEN_PID": "1"})[0], 1))

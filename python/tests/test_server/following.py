@@ -8,7 +8,7 @@ import tempfile
 import time
 from typing import Any, Iterator, List, Optional
 
-from judging import differences, wait_until
+from judging import check, wait_until
 from lines import SHORTLY
 from running import CLEAN, PACKAGE, SECONDS, Client, Running, environment
 from saving import append_to, log_of, save_folder, state_at, state_of
@@ -67,7 +67,7 @@ def _again(program: str, path: str, *words: str) -> Iterator[None]:
         yield
 
 
-def a_standby(program: str) -> List[str]:
+def a_standby(program: str) -> None:
     """A standby gets what the first server has while clients use that, and again after it was killed. When the first one is killed, it has everything."""
     with Running(program) as first, save_folder() as folder:
         with Running(program, "--save", folder) as second, Following(first.path, second.path) as following, PackageClient(first.path) as filling:
@@ -83,17 +83,17 @@ def a_standby(program: str) -> List[str]:
             with _again(program, second.path, "--save", folder), first.client() as client, Client(second.path) as copied:
                 for number in range(OBJECTS // 2, OBJECTS):
                     filling.file(0 if number % 50 else 2, b"%d" % number)
-                found = differences((_same(client, copied), True))
+                check((_same(client, copied), True))
                 state = state_of(client)
                 first.signal(signal.SIGKILL)
                 first.status()
-                found += differences((state_of(copied) == state, True), (copied.ask("tenant 7"), b"tenant 3\n"), (len(state["list 0"].splitlines()) > OBJECTS * 9 // 10, True))
-                found += differences((following.tells(f"{first.path} has closed the connection; it is tried again\n"), True), (following.process.poll(), None))
+                check((state_of(copied) == state, True), (copied.ask("tenant 7"), b"tenant 3\n"), (len(state["list 0"].splitlines()) > OBJECTS * 9 // 10, True))
+                check((following.tells(f"{first.path} has closed the connection; it is tried again\n"), True), (following.process.poll(), None))
                 status, told = following.ends(signal.SIGTERM)
-                return found + differences((status, 128 + signal.SIGTERM), ("Traceback" in told, False))
+                check((status, 128 + signal.SIGTERM), ("Traceback" in told, False))
 
 
-def copies_in_a_folder(program: str) -> List[str]:
+def copies_in_a_folder(program: str) -> None:
     """A folder gets a log in place of the one that it has, and a server that is started on it has what the first one had."""
     with save_folder() as folder, Running(program) as first, first.client() as client:
         os.mkdir(folder, 0o700)
@@ -103,39 +103,39 @@ def copies_in_a_folder(program: str) -> List[str]:
         client.ask("tenant 100000000")
         addresses = [client.file(b"%d" % number * 900_000) for number in range(4)]
         with Following(first.path, folder) as following:
-            found = differences((wait_until(lambda: log_of(folder).endswith(b"3" * 900_000)), True), (os.listdir(folder), ["log"]))
+            check((wait_until(lambda: log_of(folder).endswith(b"3" * 900_000)), True), (os.listdir(folder), ["log"]))
             for address in addresses[:3]:
                 client.ask(f"forget 0 {address}")
-            found += differences((wait_until(lambda: os.stat(f"{folder}/log").st_size < 1_000_000), True))
+            check((wait_until(lambda: os.stat(f"{folder}/log").st_size < 1_000_000), True))
             last = client.file(b"last").encode()
-            found += differences((wait_until(lambda: last in log_of(folder)), True))
+            check((wait_until(lambda: last in log_of(folder)), True))
             state = state_of(client)
             first.signal(signal.SIGKILL)
-            found += differences((following.tells(" has closed the connection; it is tried again\n"), True), (following.ends(signal.SIGINT)[0], 128 + signal.SIGINT))
-        return found + differences((state_at(program, folder), state))
+            check((following.tells(" has closed the connection; it is tried again\n"), True), (following.ends(signal.SIGINT)[0], 128 + signal.SIGINT))
+        check((state_at(program, folder), state))
 
 
-def copies_that_are_refused(program: str) -> List[str]:
+def copies_that_are_refused(program: str) -> None:
     """A copy is left as it is if it has more tenants, or if the first server was started again; a place that is wrong is reported once, and tried again."""
     with Running(program) as first, Running(program) as second, second.client() as copied:
         with Following(f"{first.path}-none", second.path) as following:
-            found = differences((following.tells(f"b3store: {first.path}-none: no such file or directory; it is tried again\n"), True))
-            found += differences((following.ends(signal.SIGINT)[1].count("\n"), 1))
+            check((following.tells(f"b3store: {first.path}-none: no such file or directory; it is tried again\n"), True))
+            check((following.ends(signal.SIGINT)[1].count("\n"), 1))
         with Following(first.path, first.path) as following:
             status, told = following.ends()
-            found += differences((status, 2), (told.endswith("FROM and TO are the same\n"), True))
+            check((status, 2), (told.endswith("FROM and TO are the same\n"), True))
         copied.ask("tenant 50")
         copied.file(b"only here")
         state = state_of(copied)
         with Following(first.path, second.path) as following:
-            found += differences((following.ends(), [3, "b3store: the copy has 1 tenant, and the store to copy 0: it is left as it is\n"]), (state_of(copied), state))
+            check((following.ends(), [3, "b3store: the copy has 1 tenant, and the store to copy 0: it is left as it is\n"]), (state_of(copied), state))
         copied.close()
     with Running(program) as first, Running(program) as second, second.client() as copied:
         with Following(first.path, second.path) as following, first.client() as client:
-            found += differences((following.tells(f"b3store.follow: {second.path} has 0 objects and 0 tenants\n"), True))
+            check((following.tells(f"b3store.follow: {second.path} has 0 objects and 0 tenants\n"), True))
             client.ask("tenant 9")
             client.file(b"kept")
-            found += differences((_same(client, copied), True))
+            check((_same(client, copied), True))
             state = state_of(client)
             time.sleep(SHORTLY)
             first.signal(signal.SIGKILL)
@@ -143,12 +143,5 @@ def copies_that_are_refused(program: str) -> List[str]:
             with _again(program, first.path), Client(first.path) as again:
                 again.ask("tenant 9")
                 status, told = following.ends()
-                found += differences((status, 3), (told.endswith("b3store: the server to copy was started again: its copy is left as it is\n"), True), (state_of(copied), state))
-        return found + differences((copied.ends(), b""), (second.end(), CLEAN))
-
-
-FOLLOWING = (
-    ("a standby", a_standby),
-    ("copies in a folder", copies_in_a_folder),
-    ("copies that are refused", copies_that_are_refused),
-)
+                check((status, 3), (told.endswith("b3store: the server to copy was started again: its copy is left as it is\n"), True), (state_of(copied), state))
+        check((copied.ends(), b""), (second.end(), CLEAN))

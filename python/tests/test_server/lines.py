@@ -6,9 +6,8 @@ import random
 import signal
 import threading
 import time
-from typing import List
 
-from judging import differences, wait_until
+from judging import check, wait_until
 from running import CLEAN, Client, Running
 
 SHORTLY = 0.3
@@ -16,63 +15,53 @@ SHORTLY = 0.3
 LONG_LINE = 100_000_000
 
 
-def a_session(program: str) -> List[str]:
+def a_session(program: str) -> None:
     """The lines of `serve` and nothing else; after the client has shut down its side it gets its answers, and the end."""
     with Running(program) as server:
         with server.client() as one, server.client() as two:
-            found = differences((one.ask("tenant 5000"), b"tenant 0\n"), (two.ask("begin 0 3"), b"upload 0\n"))
-            found += differences((two.ask("putb 0 0 3", b"abc"), b"held 3 all\n"), (one.uploads(), [0]))
+            check((one.ask("tenant 5000"), b"tenant 0\n"), (two.ask("begin 0 3"), b"upload 0\n"))
+            check((two.ask("putb 0 0 3", b"abc"), b"held 3 all\n"), (one.uploads(), [0]))
             address = two.ask("seal 0").split()[1].decode()
-            found += differences((one.ask(f"fetchb 0 {address}"), b"bytes 3\nabc"), (one.ask("frob"), b"bad\n"))
+            check((one.ask(f"fetchb 0 {address}"), b"bytes 3\nabc"), (one.ask("frob"), b"bad\n"))
             two.send(b"usage 0\nstat\n")
             totals = b"used 3 reserved 0 limit 5000\nobjects 1 bytes 3 uploads 0 held 0 parts 0\n"
-            found += differences((two.ends(), totals), (one.ask("entries 1 1"), b"journal 1\nbegin 0 0 3\n"))
-        return found + differences((server.lines, [f"b3store.server: listening on {server.path}\n"]), (server.end(), CLEAN))
+            check((two.ends(), totals), (one.ask("entries 1 1"), b"journal 1\nbegin 0 0 3\n"))
+        check((server.lines, [f"b3store.server: listening on {server.path}\n"]), (server.end(), CLEAN))
 
 
-def contents_of_all_lengths(program: str) -> List[str]:
+def contents_of_all_lengths(program: str) -> None:
     """Parts and contents go both ways as they are, also where they are read in pieces or sent ahead."""
     with Running(program) as server, server.client() as one, server.client() as two:
-        chance, found = random.Random(1), []
+        chance = random.Random(1)
         one.ask("tenant 1000000000")
         for length in (1, 1023, 4095, 4096, 4097, 65535, 65536, 65537, 1 << 20, (1 << 24) - 1, 1 << 24):
             content = chance.getrandbits(8 * length).to_bytes(length, "little")
             address = one.file(content)
-            found += differences(*((client.ask(f"fetchb 0 {address}") == b"bytes %d\n" % length + content, True) for client in (one, two)))
+            check(*((client.ask(f"fetchb 0 {address}") == b"bytes %d\n" % length + content, True) for client in (one, two)))
         pieces = b"".join(f"fetchb 0 {address} {start} 100000\nhas 0 {address}\n".encode() for start in range(0, 1 << 24, 100_000))
         sender = threading.Thread(target=two.send, args=(pieces,))
         sender.start()
         digest = hashlib.sha256()
         for _ in range(0, 1 << 24, 100_000):
             digest.update(two.answer().partition(b"\n")[2])
-            found += differences((two.answer(), b"has %d\n" % (1 << 24)))
+            check((two.answer(), b"has %d\n" % (1 << 24)))
         sender.join()
-        return found + differences((digest.hexdigest(), hashlib.sha256(content).hexdigest()))
+        check((digest.hexdigest(), hashlib.sha256(content).hexdigest()))
 
 
-def uploads_of_a_connection(program: str) -> List[str]:
+def uploads_of_a_connection(program: str) -> None:
     """What it began and left open is aborted when it ends, before it sees the end. What others began stays, also where it put parts; what it sealed stays."""
     with Running(program) as server, server.client() as other:
         other.ask("tenant 100000")
-        found = differences((other.ask("begin 0 10"), b"upload 0\n"))
+        check((other.ask("begin 0 10"), b"upload 0\n"))
         with server.client() as one:
-            found += differences((one.ask("begin 0 3"), b"upload 1\n"), (one.ask("open 0 2048"), b"upload 2\n"), (one.ask("begin 0 5"), b"upload 3\n"))
+            check((one.ask("begin 0 3"), b"upload 1\n"), (one.ask("open 0 2048"), b"upload 2\n"), (one.ask("begin 0 5"), b"upload 3\n"))
             one.ask("putb 1 0 3", b"abc")
             one.ask("putb 0 0 10", b"0123456789")
-            found += differences((other.ask("putb 3 0 5", b"01234"), b"held 5 all\n"), (other.ask("begin 0 4"), b"upload 4\n"))
-            found += differences((one.ask("seal 1").split()[0], b"new"), (other.uploads(), [0, 2, 3, 4]), (one.ends(), b""))
-        found += differences((other.uploads(), [0, 4]), (other.ask("seal 0").split()[0], b"new"), (other.ask("seal 3"), b"refused S7\n"))
-        return found + differences((other.ends(), b""), (server.end(), CLEAN))
-
-
-def kept_uploads(program: str) -> List[str]:
-    """With --keep-uploads all stays open, and another goes on with it."""
-    with Running(program, "--keep-uploads") as server, server.client() as other:
-        other.ask("tenant 100000")
-        with server.client() as one:
-            found = differences((one.ask("begin 0 3"), b"upload 0\n"), (one.ends(), b""))
-        found += differences((other.uploads(), [0]), (other.ask("putb 0 0 3", b"abc"), b"held 3 all\n"))
-        return found + differences((other.ask("seal 0").split()[0], b"new"), (other.ends(), b""), (server.end(), CLEAN))
+            check((other.ask("putb 3 0 5", b"01234"), b"held 5 all\n"), (other.ask("begin 0 4"), b"upload 4\n"))
+            check((one.ask("seal 1").split()[0], b"new"), (other.uploads(), [0, 2, 3, 4]), (one.ends(), b""))
+        check((other.uploads(), [0, 4]), (other.ask("seal 0").split()[0], b"new"), (other.ask("seal 3"), b"refused S7\n"))
+        check((other.ends(), b""), (server.end(), CLEAN))
 
 
 def _begin_and_wait(path: str, lines: bytes, pipe: int) -> None:
@@ -82,48 +71,47 @@ def _begin_and_wait(path: str, lines: bytes, pipe: int) -> None:
         time.sleep(60)
 
 
-def clients_that_are_killed(program: str) -> List[str]:
+def clients_that_are_killed(program: str) -> None:
     """Their uploads are aborted, also those whose answers they never read, and no half of a command is done."""
     with Running(program, "--sessions", "2", "--wait", "60") as server, server.client() as other:
         other.ask("tenant 1000000000")
-        kept, found = other.number("begin 0 7"), []
+        kept = other.number("begin 0 7")
         halves = (b"", b"limit 0 5", b"putb 1 0 1024\nabc", b"begin 0 5\n" * 500, b"begin 0 5\nentries 0\n" * 200, b"fetchb 0 " + b"0" * 64)
         for half in halves:
             reading, writing = os.pipe()
             client = multiprocessing.get_context("fork").Process(target=_begin_and_wait, args=(server.path, b"begin 0 5\n" + half, writing))
             client.start()
-            found += differences((os.read(reading, 100)[:7], b"upload "))
+            check((os.read(reading, 100)[:7], b"upload "))
             os.kill(client.pid or 0, signal.SIGKILL)
             client.join()
-            found += differences((wait_until(lambda: other.uploads() == [kept]), True))
+            check((wait_until(lambda: other.uploads() == [kept]), True))
             os.close(reading)
             os.close(writing)
-        found += differences((other.ask("usage 0"), b"used 0 reserved 7 limit 1000000000\n"), (other.ends(), b""))
-        return found + differences((server.end(), CLEAN))
+        check((other.ask("usage 0"), b"used 0 reserved 7 limit 1000000000\n"), (other.ends(), b""))
+        check((server.end(), CLEAN))
 
 
-def half_a_line(program: str) -> List[str]:
+def half_a_line(program: str) -> None:
     """A client that ends within a line or a part has not sent it."""
     with Running(program) as server, server.client() as other:
         other.ask("tenant 5000")
-        found = []
         for half in (b"begin 0 1", b"limit 0 4", b"tenant 5", b"putb 0 0 3\nab", b"s"):
             with server.client() as one:
                 one.send(b"stat\n" + half)
-                found += differences((one.ends(), b"objects 0 bytes 0 uploads 0 held 0 parts 0\n"))
-        return found + differences((other.ask("journal"), b"journal 1\ntenant 0 5000\n"), (other.ends(), b""), (server.end(), CLEAN))
+                check((one.ends(), b"objects 0 bytes 0 uploads 0 held 0 parts 0\n"))
+        check((other.ask("journal"), b"journal 1\ntenant 0 5000\n"), (other.ends(), b""), (server.end(), CLEAN))
 
 
-def a_line_of_100_mb(program: str) -> List[str]:
+def a_line_of_100_mb(program: str) -> None:
     """It is `bad`, and the next line is answered."""
     with Running(program) as server, server.client() as one:
         for _ in range(LONG_LINE // 1_000_000):
             one.send(b"a" * 1_000_000)
-        found = differences((one.ask(""), b"bad\n"), (one.ask("tenants"), b"tenants 0\n"))
-        return found + differences((one.ends(), b""), (server.end(), CLEAN))
+        check((one.ask(""), b"bad\n"), (one.ask("tenants"), b"tenants 0\n"))
+        check((one.ends(), b""), (server.end(), CLEAN))
 
 
-def one_that_never_reads(program: str) -> List[str]:
+def one_that_never_reads(program: str) -> None:
     """It delays no other, and has its answers, in order, when it reads at last. If it leaves, its turn is free soon after, and its uploads are aborted."""
     with Running(program, "--sessions", "3", "--wait", "60") as server, server.client() as other:
         other.ask("tenant 1000000000")
@@ -133,27 +121,14 @@ def one_that_never_reads(program: str) -> List[str]:
             sender = threading.Thread(target=silent.send, args=(lines,))
             sender.start()
             time.sleep(SHORTLY)
-            found = []
             for number in range(100):
                 other.file(b"%d" % number)
                 with server.client() as one:
-                    found += differences((one.ask(f"has 0 {address}"), b"has 1048576\n"))
+                    check((one.ask(f"has 0 {address}"), b"has 1048576\n"))
             kinds = [silent.answer().split(b" ", 1)[0] for _ in range(900)]
             sender.join()
-            found += differences((kinds == [b"bytes", b"has", b"journal"] * 300, True))
+            check((kinds == [b"bytes", b"has", b"journal"] * 300, True))
             silent.send(f"begin 0 5\nfetchb 0 {address}\n".encode() * 200)
             time.sleep(SHORTLY)
-        found += differences((wait_until(lambda: server.sessions() == 1 and other.uploads() == []), True), (other.ends(), b""))
-        return found[:5] + differences((server.end(), CLEAN))
-
-
-LINES = (
-    ("a session", a_session),
-    ("contents of all lengths", contents_of_all_lengths),
-    ("the uploads of a connection", uploads_of_a_connection),
-    ("uploads that are kept", kept_uploads),
-    ("clients that are killed", clients_that_are_killed),
-    ("half a line", half_a_line),
-    ("a line of 100 MB", a_line_of_100_mb),
-    ("a client that never reads", one_that_never_reads),
-)
+        check((wait_until(lambda: server.sessions() == 1 and other.uploads() == []), True), (other.ends(), b""))
+        check((server.end(), CLEAN))

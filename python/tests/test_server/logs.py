@@ -15,7 +15,7 @@ import time
 from typing import Any, Callable, Dict, Iterator, List, NamedTuple, Set, Tuple
 from unittest import mock
 
-from judging import differences, wait_until
+from judging import check, wait_until
 from running import AS_MODULE, CLEAN, PACKAGE, SECONDS, Client, Running, fails
 from saving import RUN_QUICKLY, append_to, content_of, files_in, fill_folder, flipped, is_logged, log_of, save_folder, state_at, state_of
 
@@ -115,9 +115,8 @@ def _append(path: str) -> None:
         file.write(b"another")
 
 
-def follows_clients(program: str) -> List[str]:
+def follows_clients(program: str) -> None:
     """What a client changes is in the log soon, for each word of --sync. The lines of the log are those of a session."""
-    found = []
     for word in "second", "no":
         with save_folder() as folder:
             with Running(program, "--save", folder, "--sync", word) as server, server.client() as client:
@@ -125,14 +124,14 @@ def follows_clients(program: str) -> List[str]:
                 address = client.file(b"abc").encode()
                 client.ask("limit 0 6")
                 lines = b"tenant 5000\nfileas 0 " + address + b" 3\nabclimit 0 6\n"
-                found += differences((is_logged(folder, lines), True), (log_of(folder), lines))
+                check((is_logged(folder, lines), True), (log_of(folder), lines))
                 state = state_of(client)
                 server.signal(signal.SIGKILL)
                 server.status()
             with Running(program, "--save", folder) as server:
-                found += differences((server.lines[0], "b3store.server: restored 1 object and 1 tenant; the last process was killed\n"), (server.end(), CLEAN))
-            found += differences((state_at(program, folder), state))
-    return found + differences((fails("--program", program, "--socket", "/tmp/none", "--sync", "always")[0], 2))
+                check((server.lines[0], "b3store.server: restored 1 object and 1 tenant; the last process was killed\n"), (server.end(), CLEAN))
+            check((state_at(program, folder), state))
+    check((fails("--program", program, "--socket", "/tmp/none", "--sync", "always")[0], 2))
 
 
 class Writer(threading.Thread):
@@ -172,23 +171,23 @@ def _restored(client: Client, number: int, sent: Set[bytes]) -> Tuple[Set[str], 
     return {*addresses}, [f"an object is wrong after kill {number}" for content in contents if hashlib.sha256(content).digest() not in sent]
 
 
-def kills_beside_writers(program: str) -> List[str]:
+def kills_beside_writers(program: str) -> None:
     """Whenever a server or its store is killed, everything is restored that was answered before something that is in the log was sent, and nothing that wasn't
     sent. Meanwhile the log is written anew."""
-    chance, found, anew, missing = random.Random(9), [], 0, set()
+    chance, anew, missing = random.Random(9), 0, set()
     writers: List[Writer] = []
     sent: Set[bytes] = set()
     with save_folder() as folder:
         for number in range(KILLS):
             with Running(program, "--save", folder, python=["-c", RUN_QUICKLY] if number % 5 else AS_MODULE) as server, server.client() as client:
                 restored, faults = _restored(client, number, sent)
-                found += faults + [f"{address} is missing after kill {number}" for address in missing - restored]
+                check((faults, []), (missing - restored, set()))
                 inode = os.stat(f"{folder}/log").st_ino
                 writers = [Writer(server, (number, writer)) for writer in range(WRITERS)]
                 time.sleep(chance.uniform(0, 1))
                 before, marker = time.monotonic(), content_of(number)
                 sent.add(hashlib.sha256(marker).digest())
-                found += differences((is_logged(folder, client.file(marker).encode()), True))
+                check((is_logged(folder, client.file(marker).encode()), True))
                 time.sleep(chance.uniform(0, 0.2))
                 os.kill(server.store() if number % 3 == 2 else server.process.pid, signal.SIGKILL)
                 server.status()
@@ -197,59 +196,59 @@ def kills_beside_writers(program: str) -> List[str]:
                     sent |= writer.sent
                 missing = {address for writer in writers for address, at in writer.filed.items() if at < before}
                 anew += os.stat(f"{folder}/log").st_ino != inode
-    return found[:5] + differences((anew > 2, True), (len(sent) > KILLS * WRITERS, True))
+    check((anew > 2, True), (len(sent) > KILLS * WRITERS, True))
 
 
-def written_anew(program: str) -> List[str]:
+def written_anew(program: str) -> None:
     """A log of which the store has less than half is written anew, also after a restart, and followed; one that isn't long stays."""
     with save_folder() as folder:
         with _logged(program, folder) as logged:
             addresses = _fill(logged.store)
-            found = differences((logged.follows(), ""))
+            check((logged.follows(), ""))
             inode = os.stat(f"{folder}/log").st_ino
             logged.store.file(0, b"kept")
-            found += differences((logged.follows(), ""), (os.stat(f"{folder}/log").st_ino, inode))
+            check((logged.follows(), ""), (os.stat(f"{folder}/log").st_ino, inode))
             for address in addresses[:7]:
                 logged.store.forget(0, address)
-            found += differences((logged.follows(), ""), (os.stat(f"{folder}/log").st_size < 1_400_000, True), (os.listdir(folder), ["log"]))
+            check((logged.follows(), ""), (os.stat(f"{folder}/log").st_size < 1_400_000, True), (os.listdir(folder), ["log"]))
             logged.store.file(0, b"late")
-            found += differences((logged.follows(), ""), (_is_saved(program, folder, logged.store), True))
+            check((logged.follows(), ""), (_is_saved(program, folder, logged.store), True))
         with open(f"{folder}/log", "ab") as file:
             # the second of each two is refused S12
             file.write(b"fileas 0 %s 300000\n%sforget 0 %s\nforget 0 %s\n" % (addresses[0].encode(), b"0" * 300_000, *[addresses[0].encode()] * 2) * 6)
         with _logged(program, folder) as logged:
-            return found + differences((logged.follows(), ""), (os.stat(f"{folder}/log").st_size < 700_000, True), (_is_saved(program, folder, logged.store), True))
+            check((logged.follows(), ""), (os.stat(f"{folder}/log").st_size < 700_000, True), (_is_saved(program, folder, logged.store), True))
 
 
-def faults_of_logs(program: str) -> List[str]:
+def faults_of_logs(program: str) -> None:
     """If a log can't be written, synced or written anew, that is reported once, and tried again: nothing is lost, also if the system lost what wasn't synced."""
     with save_folder() as folder, _logged(program, folder) as logged:
         addresses, log = _fill(logged.store), f"the log in {folder}"
-        found = differences((logged.follows(), ""))
+        check((logged.follows(), ""))
         for name, number in ("pwrite", errno.ENOSPC), ("fdatasync", errno.EIO), ("ftruncate", errno.EROFS):
             size = os.stat(f"{folder}/log").st_size
             logged.store.file(0, name.encode() * 9)
             if name == "ftruncate":
                 _append(f"{folder}/log")
             with mock.patch.object(os, name, _failing(number)):
-                found += differences((logged.follows(), f"{log} can't be written: {os.strerror(number)}; it is tried again"), (logged.follows(), ""))
+                check((logged.follows(), f"{log} can't be written: {os.strerror(number)}; it is tried again"), (logged.follows(), ""))
             if name == "fdatasync":
                 os.truncate(f"{folder}/log", size)
                 os.truncate(f"{folder}/log", size + 99)
-            found += differences((logged.follows(), f"{log} is written again"), (_is_saved(program, folder, logged.store), True))
+            check((logged.follows(), f"{log} is written again"), (_is_saved(program, folder, logged.store), True))
         for address in addresses[:7]:
             logged.store.forget(0, address)
         with mock.patch.object(os, "replace", _failing(errno.EIO)), mock.patch.object(redo_log, "SECONDS_BETWEEN_TRIES", 0.0):
             told = f"the long log in {folder} can't be written anew: Input/output error; it is tried again"
-            found += differences((logged.follows(), told), (logged.follows(), ""), (_is_saved(program, folder, logged.store), True))
-        found += differences((logged.follows(), ""), (os.stat(f"{folder}/log").st_size < 1_400_000, True), (os.listdir(folder), ["log"]))
+            check((logged.follows(), told), (logged.follows(), ""), (_is_saved(program, folder, logged.store), True))
+        check((logged.follows(), ""), (os.stat(f"{folder}/log").st_size < 1_400_000, True), (os.listdir(folder), ["log"]))
         os.unlink(f"{folder}/log")
         with mock.patch.object(os, "fsync", _failing(errno.EIO)):
-            found += differences((logged.follows(), f"{log} can't be written: Input/output error; it is tried again"))
-        return found + differences((logged.follows(), f"{log} is written again"), (_is_saved(program, folder, logged.store), True))
+            check((logged.follows(), f"{log} can't be written: Input/output error; it is tried again"))
+        check((logged.follows(), f"{log} is written again"), (_is_saved(program, folder, logged.store), True))
 
 
-def little_memory(program: str) -> List[str]:
+def little_memory(program: str) -> None:
     """A store that has no memory to redo several entries at once is saved all the same. If this process has none within an answer, later ones are read right,
     whatever the bytes look like that were unread."""
     with save_folder() as folder, _logged(program, folder) as logged:
@@ -268,31 +267,31 @@ def little_memory(program: str) -> List[str]:
 
         _fill(logged.store)
         with mock.patch.object(logged.store, "_redo_to", redo_one):
-            found = differences((logged.follows(), ""), (_is_saved(program, folder, logged.store), True))
+            check((logged.follows(), ""), (_is_saved(program, folder, logged.store), True))
         logged.store.file(0, b"objects 1 bytes 2\nredo 5 0\nok\n" * 100_000)
         with mock.patch.object(Session, "content_into", read_or_fail):
-            found += differences((logged.follows(), f"the log in {folder} can't be written: out of memory; it is tried again"))
-        return found + differences((logged.follows(), f"the log in {folder} is written again"), (_is_saved(program, folder, logged.store), True))
+            check((logged.follows(), f"the log in {folder} can't be written: out of memory; it is tried again"))
+        check((logged.follows(), f"the log in {folder} is written again"), (_is_saved(program, folder, logged.store), True))
 
 
-def kills_while_written_anew(program: str) -> List[str]:
+def kills_while_written_anew(program: str) -> None:
     """A server that is killed at each step of that, one after the other, loses nothing."""
-    found, statuses = [], []
+    statuses = []
     while statuses[-1:] != [0] and len(statuses) < 60:
         with save_folder() as folder:
             with Running(program, "--save", folder, python=["-c", STEPS], STEPS=str(len(statuses))) as server, server.client() as client:
                 client.ask("tenant 100000000")
                 address = client.file(bytes(2_000_000))
                 kept = client.file(b"kept")
-                found += differences((is_logged(folder, b"kept"), True))
+                check((is_logged(folder, b"kept"), True))
                 client.send(f"forget 0 {address}\n".encode())
                 wait_until(lambda: server.process.poll() is not None or os.stat(f"{folder}/log").st_size < 1_000_000)
                 with contextlib.suppress(OSError):
                     client.ends()
                     server.signal()
                 statuses.append(server.status())
-            found += differences((state_at(program, folder)["list 0"].splitlines()[1:], [f"{kept} 4".encode()]), (set(os.listdir(folder)) <= {"log", "log.new"}, True))
-    return found[:5] + differences((set(statuses[:-1]), {-signal.SIGKILL}), (statuses[-1], 0), (len(statuses) > 6, True))
+            check((state_at(program, folder)["list 0"].splitlines()[1:], [f"{kept} 4".encode()]), (set(os.listdir(folder)) <= {"log", "log.new"}, True))
+    check((set(statuses[:-1]), {-signal.SIGKILL}), (statuses[-1], 0), (len(statuses) > 6, True))
 
 
 SMALL = b"tenant 9\nfileas 0 6437b3ac38465133ffb63b75273a8db548c558465d79db03fd359c6cd5bd9d85 3\nabclimit 0 8\n"
@@ -301,9 +300,8 @@ ENDS = [0, 9, 88, 98, 172, 182]
 """A small log, and where its lines end."""
 
 
-def torn_ends(program: str) -> List[str]:
+def torn_ends(program: str) -> None:
     """A log that ends at any byte is restored up to its last complete line. The others are removed, which is reported, and what is appended follows."""
-    found = []
     for length in range(len(SMALL) + 1):
         with save_folder() as folder:
             os.mkdir(folder, 0o700)
@@ -312,22 +310,21 @@ def torn_ends(program: str) -> List[str]:
             whole = max(end for end in ENDS if end <= length)
             with _logged(program, folder) as logged:
                 told = f"{folder}/log ended within a line: its last {length - whole} byte{'s are' if length - whole > 1 else ' is'} removed"
-                found += differences((logged.reported, [told] if length > whole else []), (log_of(folder), SMALL[:whole]))
+                check((logged.reported, [told] if length > whole else []), (log_of(folder), SMALL[:whole]))
                 logged.store.tenant(5)
-                found += differences((logged.follows(), ""), (log_of(folder), SMALL[:whole] + b"tenant 5\n"))
-    return found[:5] + differences((len(SMALL), ENDS[-1]))
+                check((logged.follows(), ""), (log_of(folder), SMALL[:whole] + b"tenant 5\n"))
+    check((len(SMALL), ENDS[-1]))
 
 
-def logs_that_are_changed(program: str) -> List[str]:
+def logs_that_are_changed(program: str) -> None:
     """A log that is removed, replaced or truncated meanwhile is written anew; what another program appends is removed."""
     with save_folder() as folder, _logged(program, folder) as logged:
         _fill(logged.store)
-        found = differences((logged.follows(), ""))
+        check((logged.follows(), ""))
         for change in os.unlink, lambda path: os.rename(append_to(f"{path}-other"), path), lambda path: os.truncate(path, 20), _append:
             change(f"{folder}/log")
             logged.store.file(0, b"%d" % len(logged.store.list(0)))
-            found += differences((logged.follows(), ""), (_is_saved(program, folder, logged.store), True), (os.listdir(folder), ["log"]))
-        return found
+            check((logged.follows(), ""), (_is_saved(program, folder, logged.store), True), (os.listdir(folder), ["log"]))
 
 
 def _damaged(log: bytes) -> Iterator[Tuple[bytes, str]]:
@@ -344,23 +341,22 @@ def _damaged(log: bytes) -> Iterator[Tuple[bytes, str]]:
     yield log + b"forget 0 " + b"0" * 64 + b"\nlimit 0 1\n", ", is refused: S4: "
 
 
-def damaged_logs(program: str) -> List[str]:
+def damaged_logs(program: str) -> None:
     """A line that is wrong or refused is named in a message, and nothing in the folder changes; nor if the log can't be read."""
     with save_folder() as folder:
         fill_folder(program, folder)
         log = log_of(folder)
         cases = [*_damaged(log)]
-        found = []
         for content, wanted in cases:
             with open(f"{folder}/log", "wb") as file:
                 file.write(content)
             before = files_in(folder)
-            found += differences((wanted in _unrestored(program, folder), True), (files_in(folder), before))
+            check((wanted in _unrestored(program, folder), True), (files_in(folder), before))
         for error, reason in (OSError(errno.EIO, os.strerror(errno.EIO)), "Input/output error"), (MemoryError(), "out of memory"):
             with mock.patch.object(redo_log, "run_lines", mock.Mock(side_effect=error)):
-                found += differences((_unrestored(program, folder), f"the store that is saved in {folder}/log can't be restored: {reason}"), (files_in(folder), before))
+                check((_unrestored(program, folder), f"the store that is saved in {folder}/log can't be restored: {reason}"), (files_in(folder), before))
         status, told = fails("--program", program, "--socket", f"{folder}-socket", "--save", folder)
-        return found[:5] + differences((status, 1), (told.startswith(f"b3store.server: {folder}/log: line "), True), (told.count("\n"), 1))
+        check((status, 1), (told.startswith(f"b3store.server: {folder}/log: line "), True), (told.count("\n"), 1))
 
 
 def _unrestored(program: str, folder: str) -> str:
@@ -372,7 +368,7 @@ def _unrestored(program: str, folder: str) -> str:
         return str(error)
 
 
-def damaged_objects(program: str) -> List[str]:
+def damaged_objects(program: str) -> None:
     """An object that is damaged is reported, and all others are restored."""
     with save_folder() as folder:
         with _logged(program, folder) as logged:
@@ -386,35 +382,35 @@ def damaged_objects(program: str) -> List[str]:
             file.write(log)
         with _logged(program, folder) as logged:
             told = [f"{folder}/log: line {number}, at byte {log.index(addresses[at].encode()) - 9}, is refused: S11: " for number, at in ((3, 1), (5, 3))]
-            found = differences(([*logged.store.list(0)], addresses[::2]), ([line[: len(wanted)] for line, wanted in zip(logged.reported, told)], told))
-            return found + differences(([line.endswith(": this object is damaged, and not restored") for line in logged.reported], [True] * 2))
+            check(([*logged.store.list(0)], addresses[::2]), ([line[: len(wanted)] for line, wanted in zip(logged.reported, told)], told))
+            check(([line.endswith(": this object is damaged, and not restored") for line in logged.reported], [True] * 2))
 
 
-def _cannot_write(program: str, folder: str, fill: Any, free: Any, **more: Any) -> List[str]:
+def _cannot_write(program: str, folder: str, fill: Any, free: Any, **more: Any) -> None:
     """While there is no room, clients are served, and a kill loses only what was filed since. Then the log gets all of that."""
     with Running(program, "--save", folder, **more) as server, server.client() as client:
         client.ask("tenant 5000000")
         first = client.file(b"first")
-        found = differences((is_logged(folder, first.encode()), True))
+        check((is_logged(folder, first.encode()), True))
         fill(server)
         for number in range(3):
             client.file(b"%d" % number * 150_000)
         told = f"b3store.server: the log in {folder} can't be written: "
-        found += differences((wait_until(lambda: told in server.reported()), True))
+        check((wait_until(lambda: told in server.reported()), True))
         time.sleep(2)
         copy = f"{tempfile.mkdtemp(dir=server.folder)}/saved"
         shutil.copytree(folder, copy)
         rows, all_rows = (state["list 0"].splitlines()[1:] for state in (state_at(program, copy), state_of(client)))
-        found += differences((rows, all_rows[: len(rows)]), (0 < len(rows) < 4, True))
+        check((rows, all_rows[: len(rows)]), (0 < len(rows) < 4, True))
         shutil.rmtree(os.path.dirname(copy))
         free(server)
         last = client.file(b"last").encode()
         state = state_of(client)
-        found += differences((is_logged(folder, last), True), (wait_until(lambda: " is written again\n" in server.reported()), True))
-        found += differences((server.reported().count("\n"), 2))
+        check((is_logged(folder, last), True), (wait_until(lambda: " is written again\n" in server.reported()), True))
+        check((server.reported().count("\n"), 2))
         server.signal(signal.SIGKILL)
         server.status()
-    return found + differences((state_at(program, folder), state))
+    check((state_at(program, folder), state))
 
 
 def _limits(server: Running, length: int) -> None:
@@ -423,14 +419,14 @@ def _limits(server: Running, length: int) -> None:
     resource.prlimit(server.process.pid, resource.RLIMIT_FSIZE, (hard if length < 0 else length, hard))
 
 
-def full_disks(program: str) -> List[str]:
+def full_disks(program: str) -> None:
     """A write that fails is reported once, and leaves what was written before; once there is room, the log gets the rest. A folder of a file system that can't
     be written to is refused."""
     with save_folder() as folder:
-        found = _cannot_write(program, folder, lambda server: _limits(server, 200_000), lambda server: _limits(server, -1))
+        _cannot_write(program, folder, lambda server: _limits(server, 200_000), lambda server: _limits(server, -1))
     with tempfile.TemporaryDirectory() as disk:
         if subprocess.run(["mount", "-t", "tmpfs", "-o", "size=900k", "none", disk], stderr=subprocess.DEVNULL).returncode:
-            return found
+            return
         try:
             other = os.path.join(disk, "other")
 
@@ -439,26 +435,11 @@ def full_disks(program: str) -> List[str]:
                     file.write(bytes(700_000))
 
             folder = os.path.join(disk, "saved")
-            found += _cannot_write(program, folder, fill, lambda _: os.unlink(other))
+            _cannot_write(program, folder, fill, lambda _: os.unlink(other))
             files = files_in(folder)
             subprocess.run(["mount", "-o", "remount,ro", disk], check=True)
             told = f"b3store.server: cannot use the folder {folder}: Read-only file system\n"
-            found += differences((fails("--program", program, "--socket", "/tmp/none", "--save", folder), (1, told)))
-            return found + differences((files_in(folder), files))
+            check((fails("--program", program, "--socket", "/tmp/none", "--save", folder), (1, told)))
+            check((files_in(folder), files))
         finally:
             subprocess.run(["umount", disk], check=True)
-
-
-LOGS = (
-    ("a log that follows clients", follows_clients),
-    ("kills beside writers", kills_beside_writers),
-    ("a log that is written anew", written_anew),
-    ("faults of logs", faults_of_logs),
-    ("a log with little memory", little_memory),
-    ("kills while a log is written anew", kills_while_written_anew),
-    ("torn ends of a log", torn_ends),
-    ("logs that are changed", logs_that_are_changed),
-    ("damaged logs", damaged_logs),
-    ("damaged objects of a log", damaged_objects),
-    ("logs on a full disk", full_disks),
-)

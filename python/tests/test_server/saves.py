@@ -11,7 +11,7 @@ import tempfile
 import time
 from typing import Iterator, List, Tuple
 
-from judging import differences, wait_until
+from judging import check, wait_until
 from lines import SHORTLY
 from running import AS_MODULE, CLEAN, PACKAGE, SECONDS, Client, Running, environment, fails
 from saving import LENGTHS, RUN_SERVER, append_to, content_of, files_in, fill_folder, save_folder, state_at, state_of
@@ -67,7 +67,7 @@ def _fill(client: Client) -> None:
     client.ask("limit 2 78")
 
 
-def restores_all(program: str) -> List[str]:
+def restores_all(program: str) -> None:
     """All tenants with their numbers and limits, and all objects with their bytes, holders and order, again and again; open uploads are not saved."""
     with save_folder() as folder:
         with Running(program, "--save", folder, "--keep-uploads") as server:
@@ -75,18 +75,18 @@ def restores_all(program: str) -> List[str]:
                 _fill(client)
                 before = state_of(client)
                 client.ask("begin 0 5000")
-            found = differences((len(server.lines), 1), (server.end()[:2], (0, "")), (sorted(os.listdir(folder)), ["clean", "log"]))
+            check((len(server.lines), 1), (server.end()[:2], (0, "")), (sorted(os.listdir(folder)), ["clean", "log"]))
         for number in range(3):
             with Running(program, "--save", folder) as server, server.client() as client:
-                found += differences((state_of(client), before), (server.lines[0].endswith("objects and 4 tenants\n"), True), (os.listdir(folder), ["log"]))
+                check((state_of(client), before), (server.lines[0].endswith("objects and 4 tenants\n"), True), (os.listdir(folder), ["log"]))
                 client.file(content_of(number, number), number % 2)
                 client.ask(f"forget 0 {client.file(content_of(number))}")
                 before = state_of(client)
-                found += differences((client.ends(), b""), (server.end(), CLEAN))
-        return found + differences((state_at(program, folder), before), (os.stat(folder).st_mode & 0o777, 0o700))
+                check((client.ends(), b""), (server.end(), CLEAN))
+        check((state_at(program, folder), before), (os.stat(folder).st_mode & 0o777, 0o700))
 
 
-def saves_while_commands_are_left(program: str) -> List[str]:
+def saves_while_commands_are_left(program: str) -> None:
     """A client that doesn't finish in time is cut: what it sent ahead is executed before the save or never, what was answered is saved, and an incomplete
     command isn't run."""
     with save_folder() as folder, Running(program, "--save", folder, "--grace", "0") as server, server.client() as client, server.client() as silent:
@@ -100,17 +100,17 @@ def saves_while_commands_are_left(program: str) -> List[str]:
             while lines:
                 lines = lines[silent.socket.send(lines) :]
                 time.sleep(SHORTLY / 10)
-        found = differences((wait_until(lambda: server.sessions() == 2), True))
+        check((wait_until(lambda: server.sessions() == 2), True))
         server.signal()
         told = "b3store.server: the server ends while 2 connections are open\n"
-        found += differences((server.status(), 0), (server.reported(), told), (server.left(), []))
+        check((server.status(), 0), (server.reported(), told), (server.left(), []))
         state = state_at(program, folder)
         kept = [row.split()[0].decode() for row in state["list 0"].splitlines()[1:]]
-        found += differences((state["usage 0"].split()[3:], [b"0", b"limit", b"100000000"]), (state["uploads 0"], b"uploads 0\n"))
-        return found + differences((kept, addresses[: len(kept) - 1] + [long]), (1 < len(kept), True))
+        check((state["usage 0"].split()[3:], [b"0", b"limit", b"100000000"]), (state["uploads 0"], b"uploads 0\n"))
+        check((kept, addresses[: len(kept) - 1] + [long]), (1 < len(kept), True))
 
 
-def folders_that_are_changed(program: str) -> List[str]:
+def folders_that_are_changed(program: str) -> None:
     """In a folder that is moved, the log is followed. If it is removed, that is reported, the clients are served, and nothing is saved anywhere else."""
     with save_folder() as folder:
         with Running(program, "--save", folder) as server, server.client() as client:
@@ -120,14 +120,14 @@ def folders_that_are_changed(program: str) -> List[str]:
             files = files_in(folder)
             client.file(b"moved")
             state = state_of(client)
-            found = differences((client.ends(), b""), (server.end(), CLEAN), (files_in(folder), files), (state_at(program, f"{folder}-moved"), state))
+            check((client.ends(), b""), (server.end(), CLEAN), (files_in(folder), files), (state_at(program, f"{folder}-moved"), state))
         with Running(program, "--save", folder) as server, server.client() as client:
             shutil.rmtree(folder)
             client.file(b"lost")
             wanted = f"b3store.server: the log in {folder} can't be written: No such file or directory; it is tried again\n"
-            found += differences((wait_until(lambda: server.reported() == wanted), True), (client.ask("stat")[:10], b"objects 6 "), (client.ends(), b""))
+            check((wait_until(lambda: server.reported() == wanted), True), (client.ask("stat")[:10], b"objects 6 "), (client.ends(), b""))
             status, told, left = _end_unsaved(server)
-            return found + differences((status, 4), (told.count("No such file or directory"), 3), (left, []), (os.path.exists(folder), False))
+            check((status, 4), (told.count("No such file or directory"), 3), (left, []), (os.path.exists(folder), False))
 
 
 def _fault(path: str) -> str:
@@ -166,28 +166,27 @@ def _unusable(folder: str) -> Iterator[Tuple[str, str]]:
     os.close(locked)
 
 
-def folders_that_are_none(program: str) -> List[str]:
+def folders_that_are_none(program: str) -> None:
     """A folder of something else or of others, a file, and a place where none can be made: a message, status 1, and nothing changes."""
     with save_folder() as folder:
         os.mkdir(folder, 0o700)
-        found = []
         for path, wanted in _unusable(folder):
             before = sorted(os.listdir(folder))
-            found += differences((_fault(path), wanted), (sorted(os.listdir(folder)), before))
+            check((_fault(path), wanted), (sorted(os.listdir(folder)), before))
         append_to(f"{folder}/log")
         os.mkfifo(f"{folder}/pipe")
         told = f"b3store.server: {folder}/socket can't be in the folder of --save\n"
-        found += differences((fails("--program", program, "--socket", f"{folder}/socket", "--save", folder), (1, told)))
+        check((fails("--program", program, "--socket", f"{folder}/socket", "--save", folder), (1, told)))
         locked = lock_folder(folder)
         told = f"b3store.server: cannot listen on {folder}/socket: its folder is in use by another server or a backup\n"
-        found += differences((fails("--program", program, "--socket", f"{folder}/socket"), (1, told)))
+        check((fails("--program", program, "--socket", f"{folder}/socket"), (1, told)))
         told = f"b3store.server: {folder} is in use by another server\n"
-        found += differences((fails("--program", program, "--socket", f"{folder}-socket", "--save", folder), (1, told)), (os.path.exists(f"{folder}-socket"), False))
+        check((fails("--program", program, "--socket", f"{folder}-socket", "--save", folder), (1, told)), (os.path.exists(f"{folder}-socket"), False))
         os.close(locked)
-        return found + differences((fails("--program", f"{folder}/none", "--socket", f"{folder}-socket", "--save", f"{folder}-new")[0], 1), (_fault(f"{folder}-new"), ""))
+        check((fails("--program", f"{folder}/none", "--socket", f"{folder}-socket", "--save", f"{folder}-new")[0], 1), (_fault(f"{folder}-new"), ""))
 
 
-def links_in_a_folder(program: str) -> List[str]:
+def links_in_a_folder(program: str) -> None:
     """No link in the folder is followed: what it leads to is neither written to nor read."""
     with save_folder() as folder:
         fill_folder(program, folder)
@@ -202,9 +201,9 @@ def links_in_a_folder(program: str) -> List[str]:
             state = state_of(client)
             os.unlink(f"{folder}/log")
             os.symlink(other, f"{folder}/log")
-            found = differences((client.ends(), b""), (server.end(), CLEAN), (state_at(program, folder), state))
+            check((client.ends(), b""), (server.end(), CLEAN), (state_at(program, folder), state))
         with open(other, "rb") as file:
-            return found + differences((file.read(), b"another"))
+            check((file.read(), b"another"))
 
 
 def _end_unsaved(server: Running) -> Tuple[int, str, List[str]]:
@@ -214,7 +213,7 @@ def _end_unsaved(server: Running) -> Tuple[int, str, List[str]]:
     return server.end()
 
 
-def saves_that_fail(program: str) -> List[str]:
+def saves_that_fail(program: str) -> None:
     """A save that fails is reported once, and tried again, until the disk has room: nothing is lost. A client that connects meanwhile sees the end."""
     with save_folder() as folder, Running(program, "--save", folder, python=["-c", LIMITED], LIMIT="100000") as server, server.client() as client:
         client.ask("tenant 5000000")
@@ -222,34 +221,32 @@ def saves_that_fail(program: str) -> List[str]:
         state = state_of(client)
         client.ends()
         server.signal()
-        found = differences((wait_until(lambda: TRIES_AGAIN in server.reported()), True))
+        check((wait_until(lambda: TRIES_AGAIN in server.reported()), True))
         with server.client() as late:
             time.sleep(SHORTLY)
-            found += differences((server.reported().count(TRIES_AGAIN), 1), (server.process.poll(), None))
+            check((server.reported().count(TRIES_AGAIN), 1), (server.process.poll(), None))
             resource.prlimit(server.process.pid, resource.RLIMIT_FSIZE, (resource.getrlimit(resource.RLIMIT_FSIZE)[1],) * 2)
-            found += differences((server.status(), 0), (server.left(), []), (late.remaining(), b""), (state_at(program, folder), state))
+            check((server.status(), 0), (server.left(), []), (late.remaining(), b""), (state_at(program, folder), state))
     with save_folder() as folder, Running(program, "--save", folder, python=["-c", FAILING_ONCE]) as server, server.client() as client:
         client.ask("tenant 5000")
         state = state_of(client)
         client.ends()
         status, told, left = server.end()
-        return found + differences((status, 0), ("the store can't be saved: 'unforeseen'" in told, True), (left, []), (state_at(program, folder), state))
+        check((status, 0), ("the store can't be saved: 'unforeseen'" in told, True), (left, []), (state_at(program, folder), state))
 
 
-def saves_that_never_succeed(program: str) -> List[str]:
+def saves_that_never_succeed(program: str) -> None:
     """After some time, or a further signal, the save that is tried is the last one, and the status says so."""
-    found = []
     for script, signals in (LIMITED.replace("server.SECONDS_BETWEEN_SAVES", "server.SECONDS_FOR_SAVES = server.SECONDS_BETWEEN_SAVES"), 1), (LIMITED, 2):
         with save_folder() as folder, Running(program, "--save", folder, python=["-c", script], LIMIT="100000") as server:
             with server.client() as client:
                 client.ask("tenant 5000000")
                 client.file(bytes(200_000))
             status, told, left = server.end() if signals == 1 else _end_unsaved(server)
-            found += differences((status, 4), (told.count(TRIES_AGAIN), 1), (left, []))
-    return found
+            check((status, 4), (told.count(TRIES_AGAIN), 1), (left, []))
 
 
-def stores_that_are_stopped(program: str) -> List[str]:
+def stores_that_are_stopped(program: str) -> None:
     """A store that doesn't answer is killed, and what is lost is reported; the save before stays."""
     with save_folder() as folder:
         fill_folder(program, folder)
@@ -258,10 +255,10 @@ def stores_that_are_stopped(program: str) -> List[str]:
             os.kill(server.store(), signal.SIGSTOP)
             status, told, left = server.end()
         wanted = "b3store.server: the store did not answer for 1 s, and was killed; everything in it is lost, except for what its log has"
-        return differences((status, 4), (told.splitlines()[-1], wanted), (left, []), (state_at(program, folder), state))
+        check((status, 4), (told.splitlines()[-1], wanted), (left, []), (state_at(program, folder), state))
 
 
-def other_signals(program: str) -> List[str]:
+def other_signals(program: str) -> None:
     """SIGQUIT ends a server, which saves. Signals that are for something else have no effect."""
     with save_folder() as folder, Running(program, "--save", folder) as server, server.client() as client:
         client.ask("tenant 5000")
@@ -271,10 +268,10 @@ def other_signals(program: str) -> List[str]:
         state = state_of(client)
         client.ends()
         server.signal(signal.SIGQUIT)
-        return differences((server.status(), 0), (server.reported(), ""), (server.left(), []), (state_at(program, folder), state))
+        check((server.status(), 0), (server.reported(), ""), (server.left(), []), (state_at(program, folder), state))
 
 
-def stores_that_end(program: str) -> List[str]:
+def stores_that_end(program: str) -> None:
     """When the store's process is killed, the folder keeps the save before. A start whose store ends, or that is stopped, changes nothing."""
     with save_folder() as folder:
         fill_folder(program, folder)
@@ -282,7 +279,7 @@ def stores_that_end(program: str) -> List[str]:
         files = files_in(folder)
         with Running(program, "--save", folder) as server:
             os.kill(server.store(), signal.SIGKILL)
-            found = differences((server.status(), 3), ("is lost, except for what its log has\n" in server.reported(), True), (files_in(folder), files))
+            check((server.status(), 3), ("is lost, except for what its log has\n" in server.reported(), True), (files_in(folder), files))
         with Running(program, "--save", folder, "--grace", "60") as server, server.client() as client:
             client.ask("tenants")
             server.signal()
@@ -290,39 +287,39 @@ def stores_that_end(program: str) -> List[str]:
             client.close()
             time.sleep(SHORTLY)
             os.kill(server.store(), signal.SIGKILL)
-            found += differences((server.status() in (3, 4), True), ("Traceback" in server.reported(), False), (files_in(folder), files))
+            check((server.status() in (3, 4), True), ("Traceback" in server.reported(), False), (files_in(folder), files))
         with Running(program, "--save", folder, "--grace", "0") as server, server.client() as client:
             client.ask("begin 0 5")
             os.kill(server.store(), signal.SIGSTOP)
             server.signal()
-            found += differences((wait_until(lambda: "the server ends while 1 connection is open" in server.reported()), True))
+            check((wait_until(lambda: "the server ends while 1 connection is open" in server.reported()), True))
             os.kill(server.store(), signal.SIGKILL)
             wanted = f"b3store.server: the store can't be saved in {folder}, which has what was saved before: the store has ended"
-            found += differences((server.status(), 4), (server.reported().splitlines()[1:2], [wanted]))
-            found += differences((len(server.reported().splitlines()), 3), (files_in(folder), files))
-        return found + differences((state_at(program, folder), state))
+            check((server.status(), 4), (server.reported().splitlines()[1:2], [wanted]))
+            check((len(server.reported().splitlines()), 3), (files_in(folder), files))
+        check((state_at(program, folder), state))
 
 
-def stops_at_the_start(program: str) -> List[str]:
+def stops_at_the_start(program: str) -> None:
     """A signal while a server starts the store and restores ends it, and the folder keeps what it has. A second one interrupts nothing."""
     with save_folder() as folder:
         fill_folder(program, folder)
-        state, found = state_at(program, folder), []
+        state = state_at(program, folder)
         for moment in range(8):
             words = [sys.executable, *AS_MODULE, "--program", program, "--socket", f"{folder}-socket", "--save", folder]
             with tempfile.TemporaryDirectory() as room, subprocess.Popen(words, stdout=-1, stderr=-1, env=environment(room, {})) as server:
-                found += differences((wait_until(lambda: os.path.exists(f"{folder}-socket")), True))
+                check((wait_until(lambda: os.path.exists(f"{folder}-socket")), True))
                 time.sleep(0.03 * moment)
                 server.terminate()
                 time.sleep(0.005 * moment)
                 server.send_signal(signal.SIGINT)
                 told = server.communicate()[1]
-                found += differences((server.returncode, 0), (b"b3store.server" in told, False), (os.listdir(room), []))
-            found += differences((wait_until(lambda: not os.path.exists(f"{folder}-socket")), True))
-        return found[:5] + differences((state_at(program, folder), state))
+                check((server.returncode, 0), (b"b3store.server" in told, False), (os.listdir(room), []))
+            check((wait_until(lambda: not os.path.exists(f"{folder}-socket")), True))
+        check((state_at(program, folder), state))
 
 
-def asks_for_time(program: str) -> List[str]:
+def asks_for_time(program: str) -> None:
     """systemd is asked for more time while a save or a restoration lasts."""
     import socket
 
@@ -333,26 +330,10 @@ def asks_for_time(program: str) -> List[str]:
         with Running(program, "--save", folder, NOTIFY_SOCKET=f"{room}/notify") as server:
             with server.client() as client:
                 client.file(b"more")
-            found = differences((server.end(), CLEAN))
+            check((server.end(), CLEAN))
         states: List[bytes] = []
         while states.count(b"EXTEND_TIMEOUT_USEC") < 2:
             state = listening.recv(100).split(b"=")[0]
             # it may be asked for again while it is due
             states += [state] if states[-1:] != [state] else []
-        return found + differences((states, [b"EXTEND_TIMEOUT_USEC", b"READY", b"STOPPING", b"EXTEND_TIMEOUT_USEC"]))
-
-
-SAVES = (
-    ("a store that is saved and restored", restores_all),
-    ("a save when commands are left", saves_while_commands_are_left),
-    ("folders that are moved or removed", folders_that_are_changed),
-    ("folders that are none for a save", folders_that_are_none),
-    ("links in the folder of a save", links_in_a_folder),
-    ("saves that fail", saves_that_fail),
-    ("saves that never succeed", saves_that_never_succeed),
-    ("saves of stores that are stopped", stores_that_are_stopped),
-    ("saves at other signals", other_signals),
-    ("saves of stores that end", stores_that_end),
-    ("a restoration that is stopped", stops_at_the_start),
-    ("time for a save", asks_for_time),
-)
+        check((states, [b"EXTEND_TIMEOUT_USEC", b"READY", b"STOPPING", b"EXTEND_TIMEOUT_USEC"]))

@@ -6,7 +6,7 @@ import time
 import types
 from typing import Any, List
 
-from judging import differences
+from judging import check
 from running import PACKAGE, Client, Running
 
 TESTS = os.path.join(os.path.dirname(PACKAGE), "tests")
@@ -29,7 +29,7 @@ def _modules() -> Any:
     return types.SimpleNamespace(start=clients.start_clients, join=clients.join_clients, read=clients.read_log, Op=history.Op, faults_of=history.faults_of)
 
 
-def _storm(program: str, *words: str) -> List[str]:
+def _storm(program: str, *words: str) -> None:
     modules = _modules()
     with Running(program, "--sessions", str(SESSIONS), "--wait", "60", *words) as server, tempfile.TemporaryDirectory() as folder:
         with server.client() as first:
@@ -41,15 +41,12 @@ def _storm(program: str, *words: str) -> List[str]:
         with server.client() as last:
             journal = last.ask("journal").decode().splitlines()[1:]
             open_uploads = [last.uploads(tenant) for tenant in range(TENANTS)]
-        if found:
-            return found
         aborts = _aborts_of_server(modules, journal, histories, began)
-        found = modules.faults_of(journal, [*histories, aborts])
+        check((found, []), (modules.faults_of(journal, [*histories, aborts])[:3], []), (server.end()[:2], (0, "")))
         if "--keep-uploads" in words:
-            found += differences((aborts, []))
+            check((aborts, []))
         else:
-            found += differences((open_uploads, [[]] * TENANTS))
-        return found[:3] + differences((server.end()[:2], (0, "")))
+            check((open_uploads, [[]] * TENANTS))
 
 
 def _asked(modules: Any, client: Client, line: str) -> Any:
@@ -66,14 +63,11 @@ def _aborts_of_server(modules: Any, journal: List[str], histories: List[List[Any
     return [modules.Op(0, began, entry, (0, 0), ended, b"ok\n") for entry in journal if entry.startswith("abort ") and entry not in done]
 
 
-def storm(program: str) -> List[str]:
+def storm(program: str) -> None:
     """What sessions left open is aborted, and nothing else is done."""
-    return _storm(program)
+    _storm(program)
 
 
-def storm_with_kept_uploads(program: str) -> List[str]:
+def storm_with_kept_uploads(program: str) -> None:
     """The same where nothing is aborted."""
-    return _storm(program, "--keep-uploads")
-
-
-STORM = (("random commands", storm), ("random commands where uploads are kept", storm_with_kept_uploads))
+    _storm(program, "--keep-uploads")
