@@ -9,7 +9,7 @@
 
 A SNAPSHOT is an address, its first digits, or `latest`. A PATTERN is for names, as `*.o`, or, with a slash, for paths below FOLDER, as `build/*`.
 
-A repository is a folder. Its files NUMBER.log are logs that redo a store (docs/COMMANDS.md): `b3store serve < 000001.log` files their objects. An object is a part
+A repository is a folder. Its files NUMBER.log are logs that redo a store (docs/PROTOCOL.md): `b3store serve < 000001.log` files their objects. An object is a part
 of a file, of 1 MiB, the list of what is in a folder, or a snapshot; the last two are JSON. The file `snapshots` has the addresses of the snapshots. A file that has
 changed adds the parts that are new: all of them, if bytes are put in front of it. A part that is there already is compared, and added again if that is damaged.
 
@@ -46,7 +46,7 @@ import time
 
 from b3store import MAX_LIMIT, Store, StoreError
 from b3store.console import count_text, error_text, finish, one_line
-from b3store.files import checked_line, checked_text, create_anew, replace_file
+from b3store.files import create_anew
 
 try:
     from b3store.hashing import blake3
@@ -56,7 +56,7 @@ except ImportError as error:
 PART, MAX_LOG_LEN, MAX_LINE, MAX_DEPTH, NEW_FOLDER = 1 << 20, 1 << 26, 128, 400, 0o1700
 LINE = re.compile(rb"(?:tenant [0-9]{1,20}|fileas 0 ([0-9a-f]{64}) ([0-9]{1,14}))\n")
 LOG, ADDRESS, SNAPSHOTS = re.compile("[0-9]{6}[.]log"), re.compile("[0-9a-f]{64}"), "snapshots"
-NEW_LOG, TENANT = "log.new", 0
+NEW, TENANT = "new", 0
 KINDS = {stat.S_IFREG: "file", stat.S_IFDIR: "folder", stat.S_IFLNK: "link"}
 CLOCK_STEP = 10**9
 """For so many nanoseconds after a change, another one may leave a file's time as it is."""
@@ -82,8 +82,8 @@ class Repository:
             self.read_log(name)
         self.lines = []
         with contextlib.suppress(FileNotFoundError), self.open(SNAPSHOTS) as file:
-            self.lines = [line.rstrip(b"\n") for line in file]
-        self.snapshots = [text for text in map(checked_text, self.lines) if text and ADDRESS.fullmatch(text)]
+            self.lines = [*filter(None, file.read().decode("latin-1").split("\n"))]
+        self.snapshots = [*filter(ADDRESS.fullmatch, self.lines)]
         if len(self.snapshots) < len(self.lines):
             self.report(f"{path}/{SNAPSHOTS} has {count_text(len(self.lines) - len(self.snapshots), 'damaged line')}")
 
@@ -143,11 +143,11 @@ class Repository:
 
     def entries(self, folder):
         """The entries of what is in a folder, which is given by its own entry."""
-        return self.value(folder["list"], lambda value: type(value) is list and all(is_entry(entry, entry["kind"]) for entry in value))
+        return self.value(folder.get("list"), lambda value: type(value) is list and all(is_entry(entry, entry["kind"]) for entry in value))
 
     def paths(self, folder, seen=(), path=""):
         """Yields the path and the entry of all that is below a folder, except of what is in lists that were seen."""
-        for entry in self.entries(folder) if folder["list"] not in seen else ():
+        for entry in self.entries(folder) if folder.get("list") not in seen else ():
             below = os.path.join(path, entry["name"])
             yield below, entry
             if entry["kind"] == "folder":
@@ -176,31 +176,33 @@ class Repository:
         """Writes what redoes the store of new objects to a new log, which gets its name when it is complete."""
         if self.store is not None:
             name, at = f"{int(max(self.logs, default='000000.log')[:-4]) + 1:06}.log", 0
-            with create_anew(self.folder, NEW_LOG) as file:
+            with self.replacing(name) as file:
                 while at < self.store.counts().entries:
                     at, lines = self.store.redo(at)
                     file.write(lines)
-                file.flush()
-                os.fsync(file.fileno())
-            os.rename(NEW_LOG, name, src_dir_fd=self.folder, dst_dir_fd=self.folder)
-            os.fsync(self.folder)
             self.read_log(name)
             self.store = self.store.close()
 
     def set_snapshots(self, lines):
         self.write_log()
-        replace_file(self.folder, SNAPSHOTS, lines)
+        with self.replacing(SNAPSHOTS) as file:
+            file.write("".join(f"{line}\n" for line in lines).encode("latin-1"))
+
+    @contextlib.contextmanager
+    def replacing(self, name):
+        """A new file, which gets a name in the repository when it is complete and synced."""
+        with create_anew(self.folder, NEW) as file:
+            yield file
+            file.flush()
+            os.fsync(file.fileno())
+        os.rename(NEW, name, src_dir_fd=self.folder, dst_dir_fd=self.folder)
+        os.fsync(self.folder)
 
 
 def is_entry(entry, kind):
-    """Whether a value is an entry of this kind, with what is needed to restore it. May raise what a value of another type raises."""
-    name, numbers = entry["name"], [entry[field] for field in ("mode", "uid", "gid", "size", "mtime")]
-    is_sound = os.fsencode(name) not in (b"", b".", b"..") and not {"/", "\0"}.intersection(name) and {*map(type, numbers)} == {int}
-    if not is_sound or entry["kind"] != kind or min(numbers[:4]) < 0 or max(numbers[:3]) >= (1 << 32) - 1 or max(map(abs, numbers)) >= 1 << 63:
-        return False
-    if kind == "file":
-        return all(type(part) is int and part > 0 or ADDRESS.fullmatch(part) for part in entry["parts"])
-    return bool(ADDRESS.fullmatch(entry["list"])) if kind == "folder" else kind == "link" and b"\0" not in os.fsencode(entry["target"])
+    """Whether a value is an entry of this kind, whose name leads nowhere else. May raise what a value of another type raises."""
+    name = os.fsencode(entry["name"])
+    return entry["kind"] == kind and kind in KINDS.values() and name not in (b"", b".", b"..") and not {*b"/\0"}.intersection(name)
 
 
 @contextlib.contextmanager
@@ -243,12 +245,6 @@ def parts_of(file, size):
         yield zeros
 
 
-def facts(name, kind, status):
-    """The fields that all entries have."""
-    mode = stat.S_IMODE(status.st_mode)
-    return {"name": name, "kind": kind, "mode": mode, "uid": status.st_uid, "gid": status.st_gid, "mtime": status.st_mtime_ns, "size": status.st_size}
-
-
 class Backup(Repository):
     """A repository, and a folder that is saved or restored by functions of this class, which work in the current folder."""
 
@@ -270,7 +266,7 @@ class Backup(Repository):
                 raise Fault(f"{self.options.folder} is the repository")
             top = {**self.facts("top", "folder", number, "."), "list": self.save_list("", known)}
         address = self.keep_value({"time": time.time(), "path": place, "top": top})
-        self.set_snapshots([*(line + b"\n" for line in self.lines), checked_line(address)])
+        self.set_snapshots([*self.lines, address])
         if self.unsaved:
             self.report(f"not saved: the extended attributes of {count_text(len(self.unsaved), 'path')}, as of {self.unsaved[0]}", 0)
         print(", ".join(count_text(self.counts[kind], kind) for kind in KINDS.values()))
@@ -301,23 +297,26 @@ class Backup(Repository):
             self.report(f"left out: {path}: it is {'the repository' if kind else 'a pipe, a device or a socket'}", 0 if kind else 1)
             return []
         if kind == "link":
-            return [{**facts(name, kind, status), "target": os.readlink(name)}]
+            return [{**self.facts(name, kind, name, path), "target": os.readlink(name)}]
         if kind == "folder":
             with inside(name) as number:
                 return [{**self.facts(name, kind, number, path), "list": self.save_list(path, known)}]
         with opened(name) as file:
             return [{**self.facts(name, kind, file.fileno(), path), **self.save_parts(file, path, known)}]
 
-    def facts(self, name, kind, number, path):
-        """The same as `facts` of what is open. Notes attributes that aren't saved. Without its access list, the mode may give no one more."""
-        entry, names = facts(name, kind, os.fstat(number)), set()
+    def facts(self, name, kind, place, path):
+        """The fields that all entries have, of what is open, or of a link. Notes attributes that aren't saved. Without its access list, the mode may give no one
+        more."""
+        how, names = {"follow_symlinks": kind != "link"}, set()
+        status = os.stat(place, **how)
         with contextlib.suppress(OSError):
-            names = {*os.listxattr(number)} - {"security.selinux"}
+            names = {*os.listxattr(place, **how)} - {"security.selinux"}
         self.unsaved += [path] if names else []
+        mode = stat.S_IMODE(status.st_mode)
         if "system.posix_acl_access" in names:
             self.report(f"saved without its access list: {path}")
-            entry["mode"] &= ~0o77
-        return entry
+            mode &= ~0o77
+        return {"name": name, "kind": kind, "mode": mode, "uid": status.st_uid, "gid": status.st_gid, "mtime": status.st_mtime_ns, "size": status.st_size}
 
     def save_parts(self, file, path, known):
         """Keeps the content of an open file. Returns the fields that say what it is."""
@@ -358,7 +357,7 @@ class Backup(Repository):
             below = os.path.join(path, entry["name"])
             try:
                 self.restore_entry(entry, below, wanted[1:])
-            except (OSError, OverflowError, Fault) as error:
+            except (OSError, Fault, LookupError, ArithmeticError, TypeError, ValueError) as error:
                 self.report(f"not restored: {below}: {error_text(error)}")
         status = os.fstat(number)
         # a folder that was there keeps its own mode, owner and time
@@ -366,7 +365,7 @@ class Backup(Repository):
             self.set_facts(number, folder)
 
     def restore_entry(self, entry, path, wanted):
-        """Restores an entry into the current folder, unless it is there. Raises OSError, OverflowError and Fault."""
+        """Restores an entry into the current folder, unless it is there. Raises OSError, Fault, and what values that no save has made raise."""
         name = entry["name"]
         if entry["kind"] == "folder":
             with contextlib.suppress(FileExistsError):
@@ -391,7 +390,7 @@ class Backup(Repository):
         return False
 
     def write(self, entry):
-        """Writes a new file or link, first under another name. Raises OSError, also if something has its name by now, OverflowError and Fault."""
+        """Writes a new file or link, first under another name. Raises OSError, also if something has its name by now."""
         aside = f".{blake3(os.fsencode(entry['name'])).hexdigest()[:16]}.restoring"
         with contextlib.suppress(FileNotFoundError):
             # an interrupted run has left it
@@ -487,7 +486,7 @@ class Backup(Repository):
             content = self.read(address)
             del self.places[address]
             self.keep(content)
-        self.set_snapshots(map(checked_line, kept))
+        self.set_snapshots(kept)
         for name in emptied:
             os.unlink(name, dir_fd=self.folder)
             del self.logs[name]

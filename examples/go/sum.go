@@ -12,16 +12,15 @@ import (
 	"os"
 )
 
-// hash returns the hash of bytes, and the number of compressions that it took.
-func hash(bytes []byte) ([C.B3_HASH_LEN]byte, uint64) {
+// hash returns the hash of bytes.
+func hash(bytes []byte) [C.B3_HASH_LEN]byte {
 	var out [C.B3_HASH_LEN]byte
-	var compressions C.uint64_t
 	first := bytes
 	if len(bytes) == 0 {
 		first = make([]byte, 1) // no pointer may be null
 	}
-	C.b3_hash((*C.uint8_t)(&first[0]), C.size_t(len(bytes)), (*C.uint8_t)(&out[0]), C.size_t(len(out)), &compressions)
-	return out, uint64(compressions)
+	C.b3_hash((*C.uint8_t)(&first[0]), C.size_t(len(bytes)), (*C.uint8_t)(&out[0]))
+	return out
 }
 
 func main() {
@@ -33,8 +32,7 @@ func main() {
 			status = 1
 			continue
 		}
-		sum, _ := hash(bytes)
-		if _, err := fmt.Printf("%x  %s\n", sum, name); err != nil {
+		if _, err := fmt.Printf("%x  %s\n", hash(bytes), name); err != nil {
 			fmt.Fprintln(os.Stderr, err)
 			os.Exit(1)
 		}

@@ -16,10 +16,13 @@ import many
 from judging import judged
 from python_needed import end_where_older
 
-CASES = (*package.CASES, *backups.CASES, *caches.CASES, *cache_disk.CASES, *many.CASES)
+MODULES = (backups, caches, cache_disk, many)
+CASES = (*package.CASES, *((f"{module.__name__}: {case.__name__.replace('_', ' ')}", case) for module in MODULES for case in module.CASES))
 
 if __name__ == "__main__":
     end_where_older()
-    # a shell starts what it doesn't wait for with SIGINT ignored, and the programs tried here would inherit that
+    # a shell starts what it doesn't wait for with these ignored, nohup with SIGHUP, and the programs tried here would inherit that
     signal.signal(signal.SIGINT, signal.default_int_handler)
+    for number in signal.SIGHUP, signal.SIGQUIT:
+        signal.signal(number, signal.SIG_DFL)
     sys.exit(judged(CASES))

@@ -18,7 +18,7 @@ import tempfile
 import time
 from unittest import mock
 
-from shared import PROGRAM, SECONDS, TOP, differences, readable_by_others
+from shared import PROGRAM, SECONDS, TOP, check, readable_by_others
 from b3store.hashing import blake3
 import backup
 
@@ -33,14 +33,14 @@ def run(*words, **how):
     return ran.returncode, ran.stdout.decode(errors="surrogateescape").splitlines(), ran.stderr.decode(errors="surrogateescape").splitlines()
 
 
-def check(repository):
+def run_check(repository):
     return run("check", "--program", PROGRAM, repository)
 
 
 def is_whole(repository, snapshots):
-    """What is wrong with a repository that should have so many snapshots, each of which can be restored."""
-    status, lines, errors = check(repository)
-    return differences((status, 0), (errors, [])) + ([] if re.fullmatch(f"[0-9]+ objects?, 0 damaged; {snapshots} snapshots?, 0 broken", lines[-1]) else lines)
+    """Checks a repository that should have so many snapshots, each of which can be restored."""
+    status, lines, errors = run_check(repository)
+    check((status, 0), (errors, []), (bool(re.fullmatch(f"[0-9]+ objects?, 0 damaged; {snapshots} snapshots?, 0 broken", lines[-1])), True))
 
 
 def put(folder, name, content=b"abc", mode=0o644):
@@ -119,18 +119,18 @@ def new_bytes(lines):
 def round_trip():
     """It is restored as it was, in a small repository that only its user can read. A second snapshot adds little, and one of a file with six bytes at its end a part."""
     with place_of() as (folder, repository, restored):
-        found = differences((readable_by_others(repository), []), (run("restore", repository, "latest", restored), (0, [], [])))
-        found += [] if state_of(restored) == state_of(folder) else ["it is restored as something else"]
+        check((readable_by_others(repository), []), (run("restore", repository, "latest", restored), (0, [], [])))
+        check((state_of(restored) == state_of(folder), True))
         blocks = os.stat(os.path.join(restored, "sparse")).st_blocks
-        found += [f"{blocks} blocks are taken"] if blocks > 4 * PART // 512 else []
+        check((blocks <= 4 * PART // 512, True))
         for name, change, most in ("again", b"", 30000), ("at its end", b"abcdef", PART + 30000):
             with open(os.path.join(folder, "large"), "ab") as file:
                 file.write(change)
             status, lines, _ = run("save", repository, folder)
-            found += differences(((name, status), (name, 0)), (lines[-3], "47 files, 42 folders, 2 links")) + ([f"{name}: {new_bytes(lines)} bytes are new"] if new_bytes(lines) > most else [])
+            check(((name, status), (name, 0)), (lines[-3], "47 files, 42 folders, 2 links"), (new_bytes(lines) <= most, True))
         listed = run("list", repository)[1]
-        found += differences((len(listed), 3), (all(line.endswith("  " + folder) for line in listed), True), (run("list", repository, "latest")[1], sorted_paths(folder)))
-        return found + is_whole(repository, 3)
+        check((len(listed), 3), (all(line.endswith("  " + folder) for line in listed), True), (run("list", repository, "latest")[1], sorted_paths(folder)))
+        is_whole(repository, 3)
 
 
 def sorted_paths(folder):
@@ -150,31 +150,32 @@ def snapshots_by_name():
         put(folder, "sub/new.o")
         put(folder, "build/x/y")
         second = address_in(run("save", "--exclude", "*.o", "--exclude", "build/*", "--exclude", "large", repository, folder)[1])
-        found = differences((run("restore", repository, first[:9], restored)[0], 0), (os.path.exists(os.path.join(restored, "build")), False))
-        found += differences((run("list", repository, second)[1], [path for path in sorted_paths(folder) if path not in ("large", "sub/new.o", "build/x", "build/x/y")]))
+        check((run("restore", repository, first[:9], restored)[0], 0), (os.path.exists(os.path.join(restored, "build")), False))
+        check((run("list", repository, second)[1], [path for path in sorted_paths(folder) if path not in ("large", "sub/new.o", "build/x", "build/x/y")]))
         for path, wanted in ("sub/link", ["sub", "sub/link"]), ("many/7/", ["many", "many/7", "many/7/file"]), ("same", ["same"]):
             target = os.path.join(restored, "one", path.replace("/", "-"))
-            found += differences((run("restore", repository, "latest", target, path), (0, [], [])), (sorted_paths(target), wanted))
+            check((run("restore", repository, "latest", target, path), (0, [], [])), (sorted_paths(target), wanted))
         for words, part in ((["restore", repository, "xyz", restored], "no snapshot xyz"), (["list", repository, ""], "several snapshots"), (["forget", repository, "0" * 64], "no snapshot")):
             status, lines, errors = run(*words)
-            found += differences((status, 3), (lines, []), (len(errors), 1), (part in errors[0], True))
+            check((status, 3), (lines, []), (len(errors), 1), (part in errors[0], True))
         status, lines, _ = run("restore", repository, first, restored + "2", "no/such")
-        return found + differences((status, 1), (lines, ["not in the snapshot: no/such"])) + is_whole(repository, 2)
+        check((status, 1), (lines, ["not in the snapshot: no/such"]))
+        is_whole(repository, 2)
 
 
 def resumed_restores():
     """A restore that is killed at any moment leaves no file in part, and the next one does what is missing. What differs is named, and left as it is."""
     with place_of() as (folder, repository, restored):
-        found, rng, wanted = [], random.Random(3), state_of(folder)
+        rng, wanted = random.Random(3), state_of(folder)
         for number in range(12):
             with subprocess.Popen([*BACKUP, "restore", repository, "latest", restored], stdout=subprocess.DEVNULL) as process:
                 time.sleep(0.15 + rng.random() * 0.25)
                 process.kill()
             for path, facts in state_of(restored).items() if os.path.isdir(restored) else ():
                 if stat.S_ISREG(facts[0]) and ".restoring" not in path and facts[4] != wanted[path][4]:
-                    found.append(f"{path} is there in part")
+                    raise AssertionError(f"{path} is there in part")
             if number % 3 == 2:
-                found += differences((run("restore", repository, "latest", restored), (0, [], [])), (state_of(restored) == wanted, True))
+                check((run("restore", repository, "latest", restored), (0, [], [])), (state_of(restored) == wanted, True))
                 shutil.rmtree(restored)
         run("restore", repository, "latest", restored)
         changed = put(restored, "many/3/file", b"mine")
@@ -187,14 +188,14 @@ def resumed_restores():
         status, lines, _ = run("restore", repository, "latest", restored)
         names = ["differs, and is left as it is: many/3/file", "not restored: many/4: not a directory", "differs, and is left as it is: sub/link"]
         with open(changed, "rb") as file:
-            found += differences((status, 1), (lines, names), (file.read(), b"mine"), (stat.S_IMODE(os.stat(restored).st_mode), 0o711))
-        return found + differences((state_of(restored)["same"] == wanted["same"], True), (os.listdir(os.path.join(restored, "many", "5")), ["file"]))
+            check((status, 1), (lines, names), (file.read(), b"mine"), (stat.S_IMODE(os.stat(restored).st_mode), 0o711))
+        check((state_of(restored)["same"] == wanted["same"], True), (os.listdir(os.path.join(restored, "many", "5")), ["file"]))
 
 
 def killed_saves():
     """Whenever a save is killed, earlier snapshots are whole, and the next save adds what is missing."""
     with place_of() as (folder, repository, restored):
-        rng, found = random.Random(4), []
+        rng = random.Random(4)
         for number in range(12):
             for name in range(20):
                 put(folder, f"new/{name}", rng.randbytes(100000))
@@ -202,9 +203,9 @@ def killed_saves():
                 time.sleep(0.15 + rng.random() * 0.2)
                 process.kill()
             if number % 4 == 3:
-                found += is_whole(repository, len(run("list", repository)[1]))
-        found += differences((run("save", repository, folder)[0], 0), (run("restore", repository, "latest", restored)[0], 0), (state_of(restored) == state_of(folder), True))
-        return found + differences((set(os.listdir(repository)) - {"snapshots"}, {name for name in os.listdir(repository) if re.fullmatch("[0-9]{6}[.]log", name)}))
+                is_whole(repository, len(run("list", repository)[1]))
+        check((run("save", repository, folder)[0], 0), (run("restore", repository, "latest", restored)[0], 0), (state_of(restored) == state_of(folder), True))
+        check((set(os.listdir(repository)) - {"snapshots"}, {name for name in os.listdir(repository) if re.fullmatch("[0-9]{6}[.]log", name)}))
 
 
 def changed_byte(path, offset):
@@ -225,20 +226,20 @@ def damaged_objects():
             offset = content.index(file.read())
         address = content[: offset - 1].split(b" ")[-2].decode()
         changed_byte(log, offset + 5)
-        found = []
-        status, lines, _ = check(repository)
+        status, lines, _ = run_check(repository)
         short = run("list", repository)[1][0][:8]
-        found += differences((status, 1), (lines[:2], [f"damaged: object {address} in 000001.log", f"snapshot {short} can't restore many/7/file"]), (lines[2].split(", ", 1)[1], "1 damaged; 1 snapshot, 1 broken"))
+        check((status, 1), (lines[:2], [f"damaged: object {address} in 000001.log", f"snapshot {short} can't restore many/7/file"]), (lines[2].split(", ", 1)[1], "1 damaged; 1 snapshot, 1 broken"))
         status, lines, _ = run("restore", repository, "latest", restored)
-        found += differences((status, 1), (lines, [f"not restored: many/7/file: object {address} in 000001.log is damaged"]))
-        found += differences((set(state_of(folder)) - set(state_of(restored)), {"many/7/file"}), (run("save", "--all", repository, folder)[0], 0))
-        found += is_whole(repository, 2) + differences((run("restore", repository, short, restored), (0, [], [])), (contents_of(restored) == contents_of(folder), True))
+        check((status, 1), (lines, [f"not restored: many/7/file: object {address} in 000001.log is damaged"]))
+        check((set(state_of(folder)) - set(state_of(restored)), {"many/7/file"}), (run("save", "--all", repository, folder)[0], 0))
+        is_whole(repository, 2)
+        check((run("restore", repository, short, restored), (0, [], [])), (contents_of(restored) == contents_of(folder), True))
         # a line: what follows it in the log can't be found, until a save adds it again
         changed_byte(log, offset - 1)
         status, lines, errors = run("list", repository)
-        found += differences((status, 1), (errors, []), (lines[0].startswith(f"{log} is damaged: it has no more objects from byte "), True), (len(lines), 3))
-        found += differences((run("forget", repository, "latest")[0], 3), (run("save", "--all", repository, folder)[0], 1), (run("restore", repository, "latest", restored + "2")[0], 1))
-        return found + differences((state_of(restored + "2") == state_of(folder), True))
+        check((status, 1), (errors, []), (lines[0].startswith(f"{log} is damaged: it has no more objects from byte "), True), (len(lines), 3))
+        check((run("forget", repository, "latest")[0], 3), (run("save", "--all", repository, folder)[0], 1), (run("restore", repository, "latest", restored + "2")[0], 1))
+        check((state_of(restored + "2") == state_of(folder), True))
 
 
 def damaged_snapshots():
@@ -246,14 +247,15 @@ def damaged_snapshots():
     with place_of() as (folder, repository, restored):
         run("save", repository, folder)
         path = os.path.join(repository, "snapshots")
-        changed_byte(path, 20)
         with open(path, "rb") as file:
-            damaged = file.read()
+            damaged = b"x" + file.read()[1:]
+        with open(path, "wb") as file:
+            file.write(damaged)
         status, lines, _ = run("list", repository)
-        found = differences((status, 1), (lines[0], f"{path} has 1 damaged line"), (len(lines), 2), (run("forget", repository, "latest")[0], 3))
-        found += differences((run("save", repository, folder)[0], 1), (run("restore", repository, "latest", restored)[0], 1), (state_of(restored) == state_of(folder), True))
+        check((status, 1), (lines[0], f"{path} has 1 damaged line"), (len(lines), 2), (run("forget", repository, "latest")[0], 3))
+        check((run("save", repository, folder)[0], 1), (run("restore", repository, "latest", restored)[0], 1), (state_of(restored) == state_of(folder), True))
         with open(path, "rb") as file:
-            return found + differences((file.read().startswith(damaged), True))
+            check((file.read().startswith(damaged), True))
 
 
 def hostile_repositories():
@@ -263,26 +265,26 @@ def hostile_repositories():
         outside, restored = os.path.join(place, "outside"), os.path.join(place, "restored")
         os.mkdir(outside)
         changes = [{"name": name} for name in ("", ".", "..", "../x", "/x", "a/b", "a\0b", "\ud800", 5, None, ["x"])] + [{"kind": kind} for kind in ("pipe", None, "folder", "link")]
-        changes += [{field: value} for field in ("mode", "uid", "gid", "mtime", "size") for value in (-1 if field != "mtime" else 1 << 63, 1 << 64, 1.5, "5", None, True)]
+        # of a wrong number it is enough that nothing unforeseen happens
+        numbers = [{field: value} for field in ("mode", "uid", "gid", "mtime", "size") for value in (-1 if field != "mtime" else 1 << 63, 1 << 64, 1.5, "5", None, True)]
         changes += [{"parts": parts} for parts in ("abc", [0], [-1], [True], ["abc"], [None], 5, [[]])] + [{"kind": "link", "target": target} for target in ("a\0b", 5, None)]
-        found = []
-        for change in [*changes, {"links": []}, {"size": 4}, {"size": 2}, {"parts": [1 << 62], "size": 1 << 62}, {}]:
+        for change in [*changes, *numbers, {"links": []}, {"size": 4}, {"size": 2}, {"parts": [1 << 62], "size": 1 << 62}, {}]:
             repository = os.path.join(place, "repository")
             os.mkdir(repository)
             kept = backup.Repository(repository, fcntl.LOCK_EX)
             entry = {**right, "parts": [kept.keep(b"abc")], **change}
             top = {**right, "name": "top", "kind": "folder", "list": kept.keep(json.dumps([entry]).encode())}
             address = kept.keep(json.dumps({"time": 1.5, "path": "/x", "top": top}).encode())
-            kept.set_snapshots([backup.checked_line(address)])
+            kept.set_snapshots([address])
             os.close(kept.folder)
             for words in ["restore", repository, "latest", restored], ["list", repository, "latest"]:
                 status, lines, errors = run(*words)
-                is_bad = bool(change) and "links" not in change and words[0] == "restore"
-                found += [f"{change}: {words[0]}: {status} {lines} {errors}"] if len(errors) > 1 or any("Traceback" in line for line in errors) or is_bad != (words[0] == "restore" and status != 0) else []
-            found += differences(((change, os.listdir(outside)), (change, [])), ((change, sorted(os.listdir(place))), (change, ["outside", "repository", "restored"])))
+                is_bad = bool(change) and "links" not in change and change not in numbers and words[0] == "restore"
+                is_bad_end = len(errors) > 1 or any("Traceback" in line for line in errors) or is_bad and status == 0
+                check(((change, words[0], status, lines, errors, is_bad_end), (change, words[0], status, lines, errors, False)))
+            check(((change, os.listdir(outside)), (change, [])), ((change, sorted(os.listdir(place))), (change, ["outside", "repository", "restored"])))
             shutil.rmtree(repository)
             shutil.rmtree(restored, ignore_errors=True)
-        return found[:9]
 
 
 def planted_links():
@@ -290,7 +292,7 @@ def planted_links():
     with place_of() as (folder, repository, restored):
         outside = os.path.join(os.path.dirname(folder), "outside")
         os.mkdir(outside)
-        victim, found = put(outside, "victim", b"victim"), []
+        victim = put(outside, "victim", b"victim")
         os.mkdir(restored)
         os.symlink(outside, os.path.join(restored, "many"))
         os.symlink(victim, os.path.join(restored, "large"))
@@ -299,19 +301,18 @@ def planted_links():
         os.mkdir(os.path.join(restored, "sub"))
         os.link(victim, os.path.join(restored, "sub", f".{blake3(b'none').hexdigest()[:16]}.restoring"))
         status, lines, _ = run("restore", repository, "latest", restored)
-        found += differences((status, 1), (sorted(lines), ["differs, and is left as it is: large", "not restored: many: not a directory"]))
-        os.symlink(victim, os.path.join(repository, "log.new"))
-        os.symlink(victim, os.path.join(repository, "snapshots.new"))
+        check((status, 1), (sorted(lines), ["differs, and is left as it is: large", "not restored: many: not a directory"]))
+        os.symlink(victim, os.path.join(repository, "new"))
         put(folder, "new", b"new")
-        found += differences((run("save", repository, folder)[0], 0), (os.listdir(outside), ["victim"]))
+        check((run("save", repository, folder)[0], 0), (os.listdir(outside), ["victim"]))
         os.symlink(victim, os.path.join(repository, "000009.log"))
         status, lines, errors = run("list", repository)
-        found += differences((status, 3), (len(errors), 1), ("000009.log" in errors[0], True))
+        check((status, 3), (len(errors), 1), ("000009.log" in errors[0], True))
         os.remove(os.path.join(repository, "000009.log"))
         os.mkfifo(os.path.join(repository, "000009.log"))
-        found += differences((run("list", repository)[0], 0))
+        check((run("list", repository)[0], 0))
         with open(victim, "rb") as file:
-            return found + differences((file.read(), b"victim"), (stat.S_IMODE(os.stat(victim).st_mode), 0o644))
+            check((file.read(), b"victim"), (stat.S_IMODE(os.stat(victim).st_mode), 0o644))
 
 
 def swapped(module, name, when, change):
@@ -341,7 +342,6 @@ def replaced_while_it_runs():
     with place_of() as (folder, repository, restored):
         outside = os.path.join(os.path.dirname(folder), "outside")
         put(outside, "secret/file", b"secret")
-        found = []
 
         def put_link(path, target):
             def change():
@@ -353,22 +353,21 @@ def replaced_while_it_runs():
             path = os.path.join(folder, name)
             with swapped(os, "open", lambda opened, *_, base=os.path.basename(name), **how: opened == base, put_link(path, target)):
                 status, lines = in_process("save", repository, folder)
-            found += differences((status, 1), (len([line for line in lines if line.startswith("left out: " + name.replace("\n", "\\n"))]), 1))
+            check((status, 1), (len([line for line in lines if line.startswith("left out: " + name.replace("\n", "\\n"))]), 1))
             os.unlink(path)
             os.rename(path + ".moved", path)
         with open(os.path.join(repository, max(name for name in os.listdir(repository) if name.endswith(".log"))), "rb") as file:
-            found += differences((b"secret" in file.read(), False))
+            check((b"secret" in file.read(), False))
         first = run("list", repository)[1][0].split()[0]
         with swapped(os, "open", lambda opened, *_, **how: opened == "many", put_link(os.path.join(restored, "many"), os.path.join(outside, "secret"))):
             status, lines = in_process("restore", repository, first, restored)
-        found += differences((status, 1), (lines, ["not restored: many: not a directory"]), (os.listdir(os.path.join(outside, "secret")), ["file"]))
-        return found
+        check((status, 1), (lines, ["not restored: many: not a directory"]), (os.listdir(os.path.join(outside, "secret")), ["file"]))
 
 
 def changing_files():
     """A file that changes while it is read is reported, and read again by the next save; one that has just changed is read again too."""
     with place_of() as (folder, repository, restored):
-        path, found = os.path.join(folder, "large"), []
+        path = os.path.join(folder, "large")
         os.utime(path, ns=(7, 7))
 
         def grow():
@@ -381,9 +380,9 @@ def changing_files():
         for change in grow, shrink:
             with swapped(os, "pread", lambda number, length, at: at == PART and length == PART, change):
                 status, lines = in_process("save", "--exclude", "same", repository, folder)
-            found += differences((status, 1), (lines[0] in ("changed while it was read: large", "changed while it was read: sub/hard"), True))
+            check((status, 1), (lines[0] in ("changed while it was read: large", "changed while it was read: sub/hard"), True))
             status, lines, _ = run("save", repository, folder)
-            found += differences((status, 0), (run("restore", repository, "latest", restored)[0], 0), (state_of(restored) == state_of(folder), True))
+            check((status, 0), (run("restore", repository, "latest", restored)[0], 0), (state_of(restored) == state_of(folder), True))
             shutil.rmtree(restored)
             put(folder, "large", random.Random(9).randbytes(3 * PART))
         before = os.stat(put(folder, "quick", b"one"))
@@ -393,7 +392,8 @@ def changing_files():
         run("save", repository, folder)
         run("restore", repository, "latest", restored)
         with open(os.path.join(restored, "quick"), "rb") as file:
-            return found + differences((file.read(), b"two")) + is_whole(repository, len(run("list", repository)[1]))
+            check((file.read(), b"two"))
+            is_whole(repository, len(run("list", repository)[1]))
 
 
 def access_list(*entries):
@@ -407,12 +407,12 @@ def attributes():
     value = access_list((1, 6, none), (2, 6, 12345), (4, 0, none), (16, 6, none), (32, 4, none))
     with place_of() as (folder, repository, restored):
         os.setxattr(os.path.join(folder, "same"), "user.note", b"x")
-        found = differences((run("save", repository, folder)[0], 0))
+        check((run("save", repository, folder)[0], 0))
         os.setxattr(os.path.join(folder, "large"), "system.posix_acl_access", value)
         status, lines, _ = run("save", repository, folder)
-        found += differences((status, 1), (sorted(lines[:2]), ["saved without its access list: large", "saved without its access list: sub/hard"]))
-        found += differences((lines[2], "not saved: the extended attributes of 3 paths, as of large"), (run("restore", repository, "latest", restored)[0], 0))
-        return found + differences((stat.S_IMODE(os.stat(os.path.join(restored, "large")).st_mode), 0o600))
+        check((status, 1), (sorted(lines[:2]), ["saved without its access list: large", "saved without its access list: sub/hard"]))
+        check((lines[2], "not saved: the extended attributes of 3 paths, as of large"), (run("restore", repository, "latest", restored)[0], 0))
+        check((stat.S_IMODE(os.stat(os.path.join(restored, "large")).st_mode), 0o600))
 
 
 def owners_that_cannot_be_set():
@@ -420,20 +420,20 @@ def owners_that_cannot_be_set():
     with place_of() as (folder, repository, restored):
         os.mkfifo(os.path.join(folder, "pipe"))
         status, lines, _ = run("save", repository, folder)
-        found = differences((status, 1), (lines[0], "left out: pipe: it is a pipe, a device or a socket"))
+        check((status, 1), (lines[0], "left out: pipe: it is a pipe, a device or a socket"))
         with mock.patch.object(os, "chown", side_effect=PermissionError(errno.EPERM, "Operation not permitted")):
             status, lines = in_process("restore", repository, "latest", restored)
         name = os.fsdecode(b"sub/\xff\xfe")
-        found += differences((status, 1), (len(lines), 1), (lines[0][2:], " owners couldn't be set; no setuid or setgid bits are set there"), (stat.S_IMODE(os.stat(os.path.join(restored, name)).st_mode), 0o711))
+        check((status, 1), (len(lines), 1), (lines[0][2:], " owners couldn't be set; no setuid or setgid bits are set there"), (stat.S_IMODE(os.stat(os.path.join(restored, name)).st_mode), 0o711))
         with mock.patch.object(os, "link", side_effect=PermissionError(errno.EPERM, "Operation not permitted")):
-            found += differences((in_process("restore", repository, "latest", restored + "2"), (0, [])))
-        return found + differences(({path: facts[:5] for path, facts in state_of(restored + "2").items()} == {path: facts[:5] for path, facts in state_of(folder).items() if path != "pipe"}, True))
+            check((in_process("restore", repository, "latest", restored + "2"), (0, [])))
+        check(({path: facts[:5] for path, facts in state_of(restored + "2").items()} == {path: facts[:5] for path, facts in state_of(folder).items() if path != "pipe"}, True))
 
 
 def forgets():
     """What no other snapshot needs is removed, and all others are whole, whenever that is killed."""
     with place_of() as (folder, repository, restored):
-        rng, found = random.Random(6), []
+        rng = random.Random(6)
         kept = state_of(folder)
         for number in range(6):
             put(folder, "changing", rng.randbytes(400000))
@@ -444,12 +444,13 @@ def forgets():
             with subprocess.Popen([*BACKUP, "forget", repository, name], stdout=subprocess.DEVNULL) as process:
                 time.sleep(0.15 + rng.random() * 0.1)
                 process.kill()
-            found += is_whole(repository, len(run("list", repository)[1]))
+            is_whole(repository, len(run("list", repository)[1]))
         left = [line.split()[0] for line in run("list", repository)[1]]
         status, lines, _ = run("forget", repository, *[name for name in left if name in names[1:]])
         sizes.append(sum(os.path.getsize(os.path.join(repository, name)) for name in os.listdir(repository)))
-        found += differences((status, 0), (run("restore", repository, "latest", restored)[0], 0), (state_of(restored) == kept, True)) + is_whole(repository, 1)
-        return found + ([f"{sizes} bytes"] if sizes[0] - sizes[1] < 2300000 else []) + differences((run("forget", repository, "latest")[0], 0), (run("list", repository), (0, [], [])))
+        check((status, 0), (run("restore", repository, "latest", restored)[0], 0), (state_of(restored) == kept, True))
+        is_whole(repository, 1)
+        check((sizes[0] - sizes[1] >= 2300000, True), (run("forget", repository, "latest")[0], 0), (run("list", repository), (0, [], [])))
 
 
 def full_disks():
@@ -460,10 +461,11 @@ def full_disks():
     with place_of() as (folder, repository, restored):
         put(folder, "new", os.urandom(5000000))
         status, lines, errors = run("save", repository, folder, preexec_fn=limit_files)
-        found = differences((status, 3), (errors, ["b3store: cannot write: file too large"])) + is_whole(repository, 1)
+        check((status, 3), (errors, ["b3store: cannot write: file too large"]))
+        is_whole(repository, 1)
         status, lines, _ = run("restore", repository, "latest", restored, preexec_fn=limit_files)
-        found += differences((status, 1), ([line for line in lines if not line.endswith(": file too large")], []), (sorted(set(state_of(folder)) - set(state_of(restored))), ["large", "new", "same", "sparse", "sub/hard"]))
-        return found + differences((run("save", repository, folder)[0], 0), (run("restore", repository, "latest", restored), (0, [], [])), (contents_of(restored) == contents_of(folder), True))
+        check((status, 1), ([line for line in lines if not line.endswith(": file too large")], []), (sorted(set(state_of(folder)) - set(state_of(restored))), ["large", "new", "same", "sparse", "sub/hard"]))
+        check((run("save", repository, folder)[0], 0), (run("restore", repository, "latest", restored), (0, [], [])), (contents_of(restored) == contents_of(folder), True))
 
 
 def deep_folders():
@@ -481,22 +483,21 @@ def deep_folders():
             os.fchdir(before)
             os.close(before)
         status, lines, errors = run("save", repository, folder)
-        found = differences((status, 1), (errors, []), (len(lines), 4), (lines[0][-35:], ": the folders are nested too deeply"))
+        check((status, 1), (errors, []), (len(lines), 4), (lines[0][-35:], ": the folders are nested too deeply"))
         status, lines, errors = run("restore", repository, "latest", restored)
-        return found + differences((status, 0), (lines, []), (errors, []), (os.path.exists(os.path.join(restored, *["d"] * 396, "file")), True)) + is_whole(repository, 2)
+        check((status, 0), (lines, []), (errors, []), (os.path.exists(os.path.join(restored, *["d"] * 396, "file")), True))
+        is_whole(repository, 2)
 
 
 def locks():
     """A save keeps other commands out, and a restore lets other restores in."""
     with place_of() as (folder, repository, restored):
-        found = []
         for lock, statuses in (fcntl.LOCK_EX, (3, 3, 3)), (fcntl.LOCK_SH, (3, 0, 0)):
             holding = os.open(repository, os.O_RDONLY)
             fcntl.flock(holding, lock)
-            got = run("save", repository, folder), run("restore", repository, "latest", restored), check(repository)
+            got = run("save", repository, folder), run("restore", repository, "latest", restored), run_check(repository)
             os.close(holding)
-            found += differences((tuple(each[0] for each in got), statuses), (got[0][2], [f"b3store: {repository} is in use by another command"]))
-        return found
+            check((tuple(each[0] for each in got), statuses), (got[0][2], [f"b3store: {repository} is in use by another command"]))
 
 
 def wrong_words():
@@ -508,37 +509,43 @@ def wrong_words():
             (["restore", repository, "latest", file], 3, file), (["save", "", folder], 3, ""), (["restore", repository, "latest", ""], 3, ""), (["check", "--program", restored, repository], 3, restored),
             (["frob", repository], 2, "'frob'"), (["save", repository], 2, "FOLDER"), ([], 2, "COMMAND"), (["list", repository, "a", "b"], 2, "b"),
         )
-        found = []
         for words, status, part in cases:
             got, lines, errors = run(*words)
-            found += differences(((words, got, lines), (words, status, []))) + ([] if part in errors[-1] and (status == 2 or len(errors) == 1) else [f"{words}: {errors}"])
+            check(((words, got, lines), (words, status, [])), (part in errors[-1] and (status == 2 or len(errors) == 1), True))
         within = os.path.join(folder, "within")
         status, lines, _ = run("save", within, folder)
-        found += differences((status, 0), (lines[0], "left out: within: it is the repository"))
+        check((status, 0), (lines[0], "left out: within: it is the repository"))
         status, lines, errors = run("list", repository, env={**os.environ, "B3STORE_LIBRARY": "/none"})
-        return found + differences((len(errors), 1), ("/none" in errors[0], True), (status, 1))
+        check((len(errors), 1), ("/none" in errors[0], True), (status, 1))
+
+
+def wait_for_library(process):
+    """Waits until a program has loaded the library, unless it ends before: the interpreter shows a traceback if it is interrupted while it starts."""
+    while process.poll() is None:
+        with open(f"/proc/{process.pid}/maps", encoding="utf-8") as maps:
+            if "libb3store" in maps.read():
+                return
+        time.sleep(0.01)
 
 
 def interrupts():
     """Ctrl-C ends a run without a traceback, and leaves no file in part."""
     with place_of() as (folder, repository, restored):
         put(folder, "new", os.urandom(20000000))
-        found = []
         for words in ["save", repository, folder], ["restore", repository, "latest", restored]:
-            for seconds in 0.2, 0.35:
+            for seconds in 0.1, 0.25:
                 with subprocess.Popen([*BACKUP, *words], stdout=subprocess.PIPE, stderr=subprocess.PIPE, preexec_fn=lambda: signal.signal(signal.SIGINT, signal.SIG_DFL)) as process:
+                    wait_for_library(process)
                     time.sleep(seconds)
                     process.send_signal(signal.SIGINT)
                     errors = process.communicate(timeout=SECONDS)[1]
-                found += differences((errors, b""), (process.returncode in (0, 130, -signal.SIGINT), True))
-            found += differences((run(*words)[0], 0))
-        return found + differences((state_of(restored) == state_of(folder), True)) + is_whole(repository, len(run("list", repository)[1]))
+                check((errors, b""), (process.returncode in (0, 130, -signal.SIGINT), True))
+            check((run(*words)[0], 0))
+        check((state_of(restored) == state_of(folder), True))
+        is_whole(repository, len(run("list", repository)[1]))
 
 
 CASES = (
-    ("a backup", round_trip), ("a backup's snapshots", snapshots_by_name), ("restores that are killed", resumed_restores), ("saves that are killed", killed_saves),
-    ("a backup's damaged objects", damaged_objects), ("a backup's damaged snapshots", damaged_snapshots), ("hostile repositories", hostile_repositories), ("a backup and planted links", planted_links),
-    ("what is replaced while it is saved or restored", replaced_while_it_runs), ("files that change while they are saved", changing_files), ("a backup, and attributes", attributes),
-    ("a backup, and owners that can't be set", owners_that_cannot_be_set), ("snapshots that are removed", forgets), ("a backup on a full disk", full_disks), ("a backup of deep folders", deep_folders),
-    ("a backup's locks", locks), ("a backup's wrong words", wrong_words), ("a backup that is interrupted", interrupts),
+    round_trip, snapshots_by_name, resumed_restores, killed_saves, damaged_objects, damaged_snapshots, hostile_repositories, planted_links,
+    replaced_while_it_runs, changing_files, attributes, owners_that_cannot_be_set, forgets, full_disks, deep_folders, locks, wrong_words, interrupts,
 )

@@ -13,7 +13,7 @@ import threading
 import time
 
 from servers import SERVER, Cache, altered
-from shared import SECONDS, differences, readable_by_others, wait_until
+from shared import SECONDS, check, readable_by_others, wait_until
 from b3store import Store
 from b3store.redo_log import RedoLog
 
@@ -38,15 +38,14 @@ def restarts():
         os.mkdir(os.path.dirname(folder))
         large = os.urandom(3000000)
         with Cache(folder, "--limit", "7M") as cache:
-            found = differences((cache.put("/evicted", bytes(2000000)), 201), (cache.put("/large", large), 201), (cache.put("/same", large), 201), (cache.put("/k%ff?", b"abc"), 201))
-            found += differences((cache.put("/old", b"old"), 201), (cache.put("/old", b"new"), 201), (cache.put("/gone", b"x"), 201), (cache.ask("DELETE", "/gone")[0], 204))
-            found += differences((cache.stop(), (0, b"")), (cache.reports(), []), (readable_by_others(folder), []))
+            check((cache.put("/evicted", bytes(2000000)), 201), (cache.put("/large", large), 201), (cache.put("/same", large), 201), (cache.put("/k%ff?", b"abc"), 201))
+            check((cache.put("/old", b"old"), 201), (cache.put("/old", b"new"), 201), (cache.put("/gone", b"x"), 201), (cache.ask("DELETE", "/gone")[0], 204))
+            check((cache.stop(), (0, b"")), (cache.reports(), []), (readable_by_others(folder), []))
         for limit, wanted in ("7M", [404, large, large, b"abc", b"new", 404]), ("1M", [404, 404, 404, b"abc", b"new", 404]), ("4M", [404, 404, 404, b"abc", b"new", 404]):
             with Cache(folder, "--limit", limit) as cache:
                 got = [cache.get(key) for key in ("/evicted", "/large", "/same", "/k%ff?", "/old", "/gone")]
-                found += [f"with {limit} it has {[value if type(value) is int else len(value) for value in got]}"] if got != wanted else []
-                found += differences((cache.stop()[0], 0), (cache.reports(), []))
-        return found
+                check((got == wanted, True))
+                check((cache.stop()[0], 0), (cache.reports(), []))
 
 
 class Client(threading.Thread):
@@ -101,7 +100,7 @@ def faults_of(cache, client, end):
 
 def kills():
     """Killed at any moment while clients change it, and while its content moves, it begins with all that was answered some seconds before."""
-    found, rng = [], random.Random(5)
+    rng = random.Random(5)
     with tempfile.TemporaryDirectory() as place:
         folder, moves, number = os.path.join(place, "cache"), 0, 0
         for life in range(KILLS):
@@ -119,33 +118,33 @@ def kills():
                 number = max(client.number for client in clients)
             with Cache(folder) as cache:
                 for client in clients:
-                    found += faults_of(cache, client, end)
-                found += [line for line in cache.reports() if "within a line" not in line]
-                found += differences((cache.stop()[0], 0))
-        return found[:9] + ([] if moves else ["no content has moved"])
+                    check((faults_of(cache, client, end), []))
+                check(([line for line in cache.reports() if "within a line" not in line], []))
+                check((cache.stop()[0], 0))
+        check((moves > 0, True))
 
 
 def full_disks():
     """While nothing more can be written, PUT, DELETE and /healthz are answered by 503, and what is there is given; then all goes on, and nothing is lost."""
     with tempfile.TemporaryDirectory() as place, Cache(os.path.join(place, "cache")) as cache:
         kept = os.urandom(500000)
-        found = differences((cache.put("/kept", kept), 201), (cache.put("/kept2", b"abc"), 201), (wait_until(lambda: os.path.getsize(os.path.join(cache.folder, "log")) > 500000), True))
+        check((cache.put("/kept", kept), 201), (cache.put("/kept2", b"abc"), 201), (wait_until(lambda: os.path.getsize(os.path.join(cache.folder, "log")) > 500000), True))
         resource.prlimit(cache.process.pid, resource.RLIMIT_FSIZE, (600000, resource.RLIM_INFINITY))
-        found += differences((cache.put("/more", kept[::-1]), 201), (wait_until(lambda: cache.ask("GET", "/healthz")[0] == 503), True))
-        found += differences((cache.put("/x", b"abc"), 503), (cache.ask("DELETE", "/kept")[0], 503), (cache.get("/kept") == kept, True), (cache.metrics()["is_writable"], 0))
+        check((cache.put("/more", kept[::-1]), 201), (wait_until(lambda: cache.ask("GET", "/healthz")[0] == 503), True))
+        check((cache.put("/x", b"abc"), 503), (cache.ask("DELETE", "/kept")[0], 503), (cache.get("/kept") == kept, True), (cache.metrics()["is_writable"], 0))
         # a body that is too long for memory finds no room either
-        found += differences((cache.put("/y", bytes(2000000)), 503), (len(cache.reports()), 1))
+        check((cache.put("/y", bytes(2000000)), 503), (len(cache.reports()), 1))
         resource.prlimit(cache.process.pid, resource.RLIMIT_FSIZE, (resource.RLIM_INFINITY, resource.RLIM_INFINITY))
-        found += differences((wait_until(lambda: cache.ask("GET", "/healthz")[0] == 200), True), (cache.put("/x", b"abc"), 201), (cache.stop()[0], 0))
+        check((wait_until(lambda: cache.ask("GET", "/healthz")[0] == 200), True), (cache.put("/x", b"abc"), 201), (cache.stop()[0], 0))
         with Cache(cache.folder) as again:
-            return found + differences((again.get("/kept") == kept, True), (again.get("/more") == kept[::-1], True), (again.get("/x"), b"abc"), (again.get("/kept2"), b"abc"))
+            check((again.get("/kept") == kept, True), (again.get("/more") == kept[::-1], True), (again.get("/x"), b"abc"), (again.get("/kept2"), b"abc"))
 
 
 def bodies_without_disk():
     """A long body that the disk has no room for is refused; no other request is."""
     with tempfile.TemporaryDirectory() as place, Cache(os.path.join(place, "cache")) as cache:
         resource.prlimit(cache.process.pid, resource.RLIMIT_FSIZE, (1500000, resource.RLIM_INFINITY))
-        return differences((cache.put("/long", bytes(3000000)), 507), (cache.put("/short", b"abc"), 201), (cache.get("/short"), b"abc"), (cache.get("/long"), 404), (cache.reports(), []))
+        check((cache.put("/long", bytes(3000000)), 507), (cache.put("/short", b"abc"), 201), (cache.get("/short"), b"abc"), (cache.get("/long"), 404), (cache.reports(), []))
 
 
 def ended(words, **how):
@@ -169,7 +168,7 @@ def damaged_logs():
     with tempfile.TemporaryDirectory() as place:
         folder, offset = filled_folder(place)
         log = os.path.join(folder, "log")
-        whole, found = contents(folder)["log"], []
+        whole = contents(folder)["log"]
         for damage, kept in ((offset + 7, b"x"), [b"a" * 5000, 404, b"c" * 5000]), ((len(whole) - 3, None), [b"a" * 5000, b"b" * 5000, 404]):
             shutil.copytree(folder, folder + ".copy")
             with open(os.path.join(folder + ".copy", "log"), "rb+") as file:
@@ -177,18 +176,17 @@ def damaged_logs():
                 file.seek(damage[0])
                 file.write(damage[1] or b"")
             with Cache(folder + ".copy") as cache:
-                found += differences(([cache.get("/" + key) for key in "abc"], kept), (len(cache.reports()), 1))
-                found += differences((cache.put("/new", b"new"), 201), (cache.stop()[0], 0))
+                check(([cache.get("/" + key) for key in "abc"], kept), (len(cache.reports()), 1))
+                check((cache.put("/new", b"new"), 201), (cache.stop()[0], 0))
             with Cache(folder + ".copy") as cache:
-                found += differences((cache.get("/new"), b"new"), ([cache.get("/" + key) for key in "abc"], kept))
+                check((cache.get("/new"), b"new"), ([cache.get("/" + key) for key in "abc"], kept))
             shutil.rmtree(folder + ".copy")
         for content in whole[:offset] + b"x" + whole[offset:], b"garbage\n" + whole, whole.replace(b"tenant ", b"tenant x", 1):
             with open(log, "wb") as file:
                 file.write(content)
             before = contents(folder)
             status, out, lines = ended([folder])
-            found += differences((status, 1), (out, b""), (1 <= len(lines) <= 2, True), ("/log: line" in lines[-1], True), (contents(folder) == before, True))
-        return found
+            check((status, 1), (out, b""), (1 <= len(lines) <= 2, True), ("/log: line" in lines[-1], True), (contents(folder) == before, True))
 
 
 def other_folders():
@@ -206,21 +204,19 @@ def other_folders():
             store.file(store.tenant(1 << 20), b"abc")
             log.finish(store)
         log.close()
-        found = []
         for words in [folder], [stored], [open_to_all], [os.path.join(folder, "file")], [""], [folder + "/file/x"]:
             before = contents(words[0]) if os.path.isdir(words[0]) else None
             status, out, lines = ended(words)
-            found += differences(((words, status), (words, 1)), (out, b""), ((words, len(lines)), (words, 1)))
+            check(((words, status), (words, 1)), (out, b""), ((words, len(lines)), (words, 1)))
             after = contents(words[0]) if os.path.isdir(words[0]) else None
-            found += differences(((words, {**(after or {}), "clean": b""}), (words, {**(before or {}), "clean": b""})))
+            check(((words, {**(after or {}), "clean": b""}), (words, {**(before or {}), "clean": b""})))
         with Cache(os.path.join(place, "cache")) as cache:
-            found += differences((ended([cache.folder])[0], 1), (ended([cache.folder + "2", "--host", "no.such.host.invalid"])[0], 1))
+            check((ended([cache.folder])[0], 1), (ended([cache.folder + "2", "--host", "no.such.host.invalid"])[0], 1))
             run = subprocess.run([sys.executable, SERVER, cache.folder + "3", "--port", str(cache.port)], stderr=subprocess.PIPE, timeout=SECONDS)
-            found += differences((run.returncode, 1), (run.stderr, b"cache: address already in use\n"))
+            check((run.returncode, 1), (run.stderr, b"cache: address already in use\n"))
         for words in ["--port", "x"], ["--limit", "10X"], ["--max-body", "-1"]:
             run = subprocess.run([sys.executable, SERVER, os.path.join(place, "x"), *words], stderr=subprocess.PIPE, timeout=SECONDS)
-            found += differences((run.returncode, 2), (words[1].encode() in run.stderr.splitlines()[-1], True))
-        return found
+            check((run.returncode, 2), (words[1].encode() in run.stderr.splitlines()[-1], True))
 
 
 def answers_while_it_loads():
@@ -228,49 +224,47 @@ def answers_while_it_loads():
     slow = "restore = cache_content.RedoLog.restore\ndef slowly(log, store, tick):\n    import time\n    for _ in range(30):\n        time.sleep(0.1); tick()\n    return restore(log, store, tick)\ncache_content.RedoLog.restore = slowly"
     with tempfile.TemporaryDirectory() as place:
         folder, _ = filled_folder(place)
-        before, found = contents(folder), []
+        before = contents(folder)
         with Cache(folder, server=altered(before=slow), loads=False) as cache:
-            found += differences((cache.get("/a"), 404), (cache.put("/a", b"x"), 503), (cache.ask("DELETE", "/a")[0], 503), (cache.ask("GET", "/healthz")[0], 503), (cache.stop()[0], 0))
-        found += differences((contents(folder) == before, True))
+            check((cache.get("/a"), 404), (cache.put("/a", b"x"), 503), (cache.ask("DELETE", "/a")[0], 503), (cache.ask("GET", "/healthz")[0], 503), (cache.stop()[0], 0))
+        check((contents(folder) == before, True))
         with Cache(folder, server=altered(before=slow)) as cache:
-            return found + differences((cache.get("/a"), b"a" * 5000), (cache.ask("GET", "/healthz")[0], 200), (cache.stop()[0], 0))
+            check((cache.get("/a"), b"a" * 5000), (cache.ask("GET", "/healthz")[0], 200), (cache.stop()[0], 0))
 
 
 def signals():
     """Each signal that ends a program ends it well, whatever clients do, unless it is ignored, as by nohup."""
-    found = []
     for number in signal.SIGTERM, signal.SIGINT, signal.SIGHUP, signal.SIGQUIT:
         with tempfile.TemporaryDirectory() as place:
             with Cache(os.path.join(place, "cache")) as cache:
                 client = Client(cache.port, "k", 0)
                 client.start()
                 time.sleep(0.5)
-                found += differences(((number, cache.stop(number)), (number, (0, b""))), (cache.reports(), []))
+                check(((number, cache.stop(number)), (number, (0, b""))), (cache.reports(), []))
                 client.join(SECONDS)
             with Cache(cache.folder) as again:
-                found += faults_of(again, client, time.monotonic() + SECONDS_OF_SYNC)
+                check((faults_of(again, client, time.monotonic() + SECONDS_OF_SYNC), []))
     with tempfile.TemporaryDirectory() as place:
         with Cache(os.path.join(place, "cache"), preexec_fn=lambda: signal.signal(signal.SIGHUP, signal.SIG_IGN)) as cache:
             cache.process.send_signal(signal.SIGHUP)
             time.sleep(1.5)
-            return found + differences((cache.put("/k", b"abc"), 201), (cache.stop()[0], 0))
+            check((cache.put("/k", b"abc"), 201), (cache.stop()[0], 0))
 
 
 def removed_files():
     """If its log is removed while it runs, all is written again. Without its folder nothing can be changed, but all is given."""
     with tempfile.TemporaryDirectory() as place, Cache(os.path.join(place, "cache")) as cache:
-        found, log = differences((cache.put("/k", b"abc"), 201)), os.path.join(cache.folder, "log")
+        log = os.path.join(cache.folder, "log")
+        check((cache.put("/k", b"abc"), 201))
         os.remove(log)
-        found += differences((wait_until(lambda: os.path.exists(log) and os.path.getsize(log) > 100), True), (cache.put("/l", bytes(2000000)), 201), (cache.stop()[0], 0))
+        check((wait_until(lambda: os.path.exists(log) and os.path.getsize(log) > 100), True), (cache.put("/l", bytes(2000000)), 201), (cache.stop()[0], 0))
         with Cache(cache.folder) as again:
-            found += differences((again.get("/k"), b"abc"), (again.get("/l"), bytes(2000000)))
+            check((again.get("/k"), b"abc"), (again.get("/l"), bytes(2000000)))
             shutil.rmtree(cache.folder)
-            found += differences((wait_until(lambda: again.ask("GET", "/healthz")[0] == 503), True), (again.put("/m", b"x"), 503), (again.get("/k"), b"abc"))
-            return found + differences((again.stop()[0], 1), (len(again.reports()), 2))
+            check((wait_until(lambda: again.ask("GET", "/healthz")[0] == 503), True), (again.put("/m", b"x"), 503), (again.get("/k"), b"abc"))
+            check((again.stop()[0], 1), (len(again.reports()), 2))
 
 
 CASES = (
-    ("a cache that begins again", restarts), ("a cache that is killed", kills), ("a cache on a full disk", full_disks), ("a cache's long bodies on a full disk", bodies_without_disk),
-    ("a cache's damaged log", damaged_logs), ("a cache in other folders", other_folders), ("a cache that loads", answers_while_it_loads), ("a cache that ends", signals),
-    ("a cache whose files are removed", removed_files),
+    restarts, kills, full_disks, bodies_without_disk, damaged_logs, other_folders, answers_while_it_loads, signals, removed_files,
 )

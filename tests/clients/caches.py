@@ -10,7 +10,7 @@ import time
 
 from resident import resident
 from servers import Cache, altered, chunked, status_of
-from shared import ABC, FOUR, SECONDS, differences, wait_until
+from shared import ABC, FOUR, SECONDS, check, wait_until
 
 
 @contextlib.contextmanager
@@ -22,56 +22,56 @@ def new_cache(*words, **how):
 def keys():
     """Content of all lengths, known before or not, is given as it was stored; paths differ in any byte."""
     with new_cache() as cache:
-        found, rng = [], random.Random(1)
+        rng = random.Random(1)
         for number, length in enumerate([0, 1, 4096, 1 << 20, (1 << 20) + 1, 5000001]):
             content = rng.randbytes(length)
             body, headers = chunked(content[: length // 3], content[length // 3 :]) if length else chunked()
-            found += differences((cache.put(f"/k{number}", content), 201), (cache.get(f"/k{number}") == content, True))
-            found += differences((cache.put("/chunks", body, headers=headers), 201), (cache.get("/chunks") == content, True))
+            check((cache.put(f"/k{number}", content), 201), (cache.get(f"/k{number}") == content, True))
+            check((cache.put("/chunks", body, headers=headers), 201), (cache.get("/chunks") == content, True))
         for key in "/", "/a%20b", "/a%2520b", "/a?b", "/a?c", "/A", "/..", "/a/../b", "/%00", "/" + "x" * 1023:
-            found += differences((cache.put(key, key.encode()), 201))
+            check((cache.put(key, key.encode()), 201))
         for key in "/", "/a%20b", "/a%2520b", "/a?b", "/a?c", "/A", "/..", "/a/../b", "/%00", "/" + "x" * 1023:
-            found += differences((cache.get(key), key.encode()))
+            check((cache.get(key), key.encode()))
         for byte in range(0x80, 0x100):
             raw = b"/raw" + bytes([byte])
             status = status_of(cache.raw(b"PUT %b HTTP/1.1\r\nContent-Length: 1\r\n\r\n%b" % (raw, bytes([byte]))))
             got = cache.raw(b"GET %b HTTP/1.1\r\n\r\n" % raw)
-            found += differences((status, 201), (got[-1:], bytes([byte])))
-        found += differences((cache.put("/k1", b"new"), 201), (cache.get("/k1"), b"new"), (cache.ask("HEAD", "/k1"), (200, b"")), (cache.ask("DELETE", "/k1"), (204, b"")))
-        found += differences((cache.get("/k1"), 404), (cache.ask("DELETE", "/k1")[0], 404), (cache.ask("HEAD", "/k1"), (404, b"")), (cache.put("/" + "x" * 1024, b""), 414))
-        return found + differences((cache.put("/metrics", b""), 405), (cache.ask("DELETE", "/healthz")[0], 405), (cache.reports(), []))
+            check((status, 201), (got[-1:], bytes([byte])))
+        check((cache.put("/k1", b"new"), 201), (cache.get("/k1"), b"new"), (cache.ask("HEAD", "/k1"), (200, b"")), (cache.ask("DELETE", "/k1"), (204, b"")))
+        check((cache.get("/k1"), 404), (cache.ask("DELETE", "/k1")[0], 404), (cache.ask("HEAD", "/k1"), (404, b"")), (cache.put("/" + "x" * 1024, b""), 414))
+        check((cache.put("/metrics", b""), 405), (cache.ask("DELETE", "/healthz")[0], 405), (cache.reports(), []))
 
 
 def ranges():
     """One range of content, and all of it if the words are no range, or several."""
     with new_cache() as cache:
         content = os.urandom(1000000)
-        found = differences((cache.put("/k", content), 201), (cache.put("/none", b""), 201))
+        check((cache.put("/k", content), 201), (cache.put("/none", b""), 201))
         for words, first, end in ("0-0", 0, 1), ("999990-", 999990, 1000000), ("-7", 999993, 1000000), ("100000-700000", 100000, 700001), ("999999-2000000", 999999, 1000000), ("-2000000", 0, 1000000):
             status, got, headers = cache.answer("GET", "/k", headers={"Range": f"bytes={words}"})
-            found += differences((status, 206), (got == content[first:end], True), (headers["Content-Range"], f"bytes {first}-{end - 1}/1000000"))
+            check((status, 206), (got == content[first:end], True), (headers["Content-Range"], f"bytes {first}-{end - 1}/1000000"))
         for words in "bytes=5-4", "bytes=0-1,5-6", "bytes=-", "lines=0-1", "bytes=a-b", "bytes=" + "9" * 5000 + "-", "":
             status, got, headers = cache.answer("GET", "/k", headers={"Range": words})
-            found += differences((status, 200), (got == content, True), (headers["Content-Range"], None))
+            check((status, 200), (got == content, True), (headers["Content-Range"], None))
         for key, words, length in ("/k", "1000000-", 1000000), ("/k", "-0", 1000000), ("/none", "0-", 0), ("/none", "-5", 0):
             status, got, headers = cache.answer("GET", key, headers={"Range": f"bytes={words}"})
-            found += differences((status, 416), (got, b""), (headers["Content-Range"], f"bytes */{length}"))
-        found += differences((cache.answer("HEAD", "/k", headers={"Range": "bytes=0-5"})[2]["Content-Length"], "1000000"))
-        return found + differences((cache.ask("GET", "/k", headers={"Range": "bytes=0-5", "If-Range": f'"{ABC}"'})[0], 200))
+            check((status, 416), (got, b""), (headers["Content-Range"], f"bytes */{length}"))
+        check((cache.answer("HEAD", "/k", headers={"Range": "bytes=0-5"})[2]["Content-Length"], "1000000"))
+        check((cache.ask("GET", "/k", headers={"Range": "bytes=0-5", "If-Range": f'"{ABC}"'})[0], 200))
 
 
 def tags():
     """A client that has the content gets no second copy; conditions of changes are refused, and not ignored."""
     with new_cache() as cache:
-        found = differences((cache.put("/k", b"abc"), 201), (cache.answer("GET", "/k")[2]["ETag"], f'"{ABC}"'))
+        check((cache.put("/k", b"abc"), 201), (cache.answer("GET", "/k")[2]["ETag"], f'"{ABC}"'))
         for method, content in ("GET", b"abc"), ("HEAD", b""):
             for known in f'"{ABC}"', f'W/"{ABC}"', f'"x", "{ABC}"', "*":
-                found += differences((cache.ask(method, "/k", headers={"If-None-Match": known}), (304, b"")))
+                check((cache.ask(method, "/k", headers={"If-None-Match": known}), (304, b"")))
             for known in f'"{FOUR}"', '"x"', "":
-                found += differences((cache.ask(method, "/k", headers={"If-None-Match": known}), (200, content)))
+                check((cache.ask(method, "/k", headers={"If-None-Match": known}), (200, content)))
         for name, value in ("If-Match", '"x"'), ("If-None-Match", "*"), ("Content-Range", "bytes 0-2/9"):
-            found += differences((cache.ask("PUT", "/k", b"new", {name: value})[0], 501), (cache.ask("DELETE", "/k", headers={name: value})[0], 501))
-        return found + differences((cache.get("/k"), b"abc"))
+            check((cache.ask("PUT", "/k", b"new", {name: value})[0], 501), (cache.ask("DELETE", "/k", headers={name: value})[0], 501))
+        check((cache.get("/k"), b"abc"))
 
 
 def evictions():
@@ -83,15 +83,15 @@ def evictions():
         def put(name, length, fill):
             return cache.put(f"/{name}", bytes([fill]) * length)
 
-        found = differences(*[(put(name, 1000, at), 201) for at, name in enumerate("abc")], (cache.ask("GET", "/a")[0], 200))
-        found += differences((put("d", 1000, 3), 201), (kept(), "acd"), (put("e", 3501, 4), 413), (kept(), "acd"))
-        found += differences((put("e", 1000, 3), 201), (kept(), "cde"), (put("f", 2000, 5), 201), (kept(), "def"))
+        check(*[(put(name, 1000, at), 201) for at, name in enumerate("abc")], (cache.ask("GET", "/a")[0], 200))
+        check((put("d", 1000, 3), 201), (kept(), "acd"), (put("e", 3501, 4), 413), (kept(), "acd"))
+        check((put("e", 1000, 3), 201), (kept(), "cde"), (put("f", 2000, 5), 201), (kept(), "def"))
         body, headers = chunked(bytes([9]) * 3400)
-        found += differences((cache.put("/b", body, headers=headers), 201), (kept(), "b"), (cache.get("/b"), bytes([9]) * 3400))
+        check((cache.put("/b", body, headers=headers), 201), (kept(), "b"), (cache.get("/b"), bytes([9]) * 3400))
         # keys without content take memory too
-        found += differences(*[(cache.put(f"/none{number}", b""), 201) for number in range(1001)])
+        check(*[(cache.put(f"/none{number}", b""), 201) for number in range(1001)])
         counts = cache.metrics()
-        return found + differences((counts["keys"], 1000), (cache.get("/none0"), 404), (cache.get("/none1000"), b""), (kept(), ""), (counts["evictions_total"], 8))
+        check((counts["keys"], 1000), (cache.get("/none0"), 404), (cache.get("/none1000"), b""), (kept(), ""), (counts["evictions_total"], 8))
 
 
 def begin_to_read(cache, key):
@@ -110,18 +110,18 @@ def begin_to_read(cache, key):
 def reads_of_what_goes():
     """Content that is being read is given whole, though its key is stored anew, deleted or evicted, or all content moves; then its room is free."""
     with new_cache("--limit", "70000000", server=altered(cache_content__MAX_ENTRIES=10)) as cache:
-        found, large = [], os.urandom(32000000)
+        large = os.urandom(32000000)
         changes = {"stored": ("PUT", "/k", b"abc"), "deleted": ("DELETE", "/k", None), "evicted": ("PUT", "/l", large[::-1] + bytes(6000000))}
         for name, change in changes.items():
-            found += differences((cache.put("/k", large), 201))
+            check((cache.put("/k", large), 201))
             connection, read = begin_to_read(cache, "/k")
             with connection:
-                found += differences((cache.ask(*change)[0], 204 if change[2] is None else 201))
+                check((cache.ask(*change)[0], 204 if change[2] is None else 201))
                 before = cache.metrics()["renewals_total"]
-                found += differences(((name, wait_until(lambda: [cache.put(f"/x{at}", b"x") for at in range(20)] and cache.metrics()["renewals_total"] > before)), (name, True)))
+                check(((name, wait_until(lambda: [cache.put(f"/x{at}", b"x") for at in range(20)] and cache.metrics()["renewals_total"] > before)), (name, True)))
                 read += b"".join(iter(lambda: connection.recv(1 << 20), b""))
-            found += [f"{name}: {len(read)} bytes come"] if read != large else []
-        return found + differences((wait_until(lambda: cache.put("/all", bytes(70000000)) == 201), True))
+            check(((name, len(read), read == large), (name, len(large), True)))
+        check((wait_until(lambda: cache.put("/all", bytes(70000000)) == 201), True))
 
 
 def begin_to_put(cache, length, sent):
@@ -133,28 +133,28 @@ def begin_to_put(cache, length, sent):
 def bodies_that_do_not_come():
     """A length alone evicts nothing and takes no memory; a body that breaks off leaves nothing; and of too many, the next ones are refused and say so."""
     with new_cache("--limit", "100000000", server=altered(cache__MAX_BODIES=2, cache__SECONDS_TO_TURN=0.1)) as cache:
-        found = differences((cache.put("/k", bytes(60000000)), 201))
+        check((cache.put("/k", bytes(60000000)), 201))
         before = resident(cache.process.pid)
         slow = [begin_to_put(cache, 90000000, os.urandom(30000000)) for _ in range(2)]
-        found += differences((wait_until(lambda: cache.metrics()["received_bytes_total"] >= 2 * 29000000 + 60000000), True))
+        check((wait_until(lambda: cache.metrics()["received_bytes_total"] >= 2 * 29000000 + 60000000), True))
         grown = resident(cache.process.pid) - before
-        found += [f"{grown} bytes are taken"] if grown > 30000000 else []
+        check((grown <= 30000000, True))
         status, _, headers = cache.answer("PUT", "/other", b"abc")
-        found += differences((status, 503), (headers["Retry-After"], "1"), (len(cache.get("/k")), 60000000), (cache.put("/big", bytes(1 << 30)), 413))
+        check((status, 503), (headers["Retry-After"], "1"), (len(cache.get("/k")), 60000000), (cache.put("/big", bytes(1 << 30)), 413))
         for connection in slow:
             connection.close()
-        found += differences((wait_until(lambda: cache.put("/other", b"abc") == 201), True), (cache.get("/slow"), 404), (sorted(os.listdir(cache.folder)), ["log"]))
-        return found + differences((cache.metrics()["evictions_total"], 0), (cache.reports(), []))
+        check((wait_until(lambda: cache.put("/other", b"abc") == 201), True), (cache.get("/slow"), 404), (sorted(os.listdir(cache.folder)), ["log"]))
+        check((cache.metrics()["evictions_total"], 0), (cache.reports(), []))
 
 
 def bodies_that_are_too_long():
     with new_cache("--max-body", "2000") as cache:
         pieces = [chunked(bytes(1500), bytes(501)), chunked(bytes(1500), bytes(500))]
-        found = differences((cache.put("/k", bytes(2001)), 413), (cache.put("/k", bytes(2000)), 201))
-        found += differences(*[(cache.put("/k", body, headers=headers), status) for (body, headers), status in zip(pieces, (413, 201))])
+        check((cache.put("/k", bytes(2001)), 413), (cache.put("/k", bytes(2000)), 201))
+        check(*[(cache.put("/k", body, headers=headers), status) for (body, headers), status in zip(pieces, (413, 201))])
         # the client receives the answer though it goes on to send
         answer = cache.raw(b"PUT /k HTTP/1.1\r\nContent-Length: 9000000\r\n\r\n" + bytes(9000000))
-        return found + differences((status_of(answer), 413), (cache.put("/k", bytes(1 << 20)), 413), (cache.reports(), []))
+        check((status_of(answer), 413), (cache.put("/k", bytes(1 << 20)), 413), (cache.reports(), []))
 
 
 WRONG = {
@@ -177,15 +177,15 @@ WRONG = {
 def wrong_requests():
     """Each is refused, changes nothing, and ends its connection; the cache reports none of them."""
     with new_cache() as cache:
-        found = differences((cache.put("/k", b"abc"), 201))
+        check((cache.put("/k", b"abc"), 201))
         for request, status in WRONG.items():
             answer = cache.raw(request)
-            found += differences(((request[:60], status_of(answer)), (request[:60], status)), ((request[:60], answer.count(b"HTTP/1.1 ")), (request[:60], int(status is not None))))
-            found += [f"{request[:60]}: the connection isn't closed"] if status in (400, 408, 414, 431) and b"Connection: close" not in answer else []
+            check(((request[:60], status_of(answer)), (request[:60], status)), ((request[:60], answer.count(b"HTTP/1.1 ")), (request[:60], int(status is not None))))
+            check(((request[:60], b"Connection: close" in answer or status not in (400, 408, 414, 431)), (request[:60], True)))
         rng = random.Random(7)
         for _ in range(200):
             cache.raw(rng.randbytes(rng.randrange(300)) + b"\r\n\r\n")
-        return found + differences((cache.get("/k"), b"abc"), (cache.get("/x"), 404), (cache.reports(), []))
+        check((cache.get("/k"), b"abc"), (cache.get("/x"), 404), (cache.reports(), []))
 
 
 def hosts():
@@ -196,7 +196,7 @@ def hosts():
 
         allowed = "localhost", "LOCALHOST:80", "127.0.0.1:8080", "[::1]:1", "10.0.0.1", "builds.EXAMPLE:8080"
         refused = "evil.example", "localhost.evil", "builds.example.evil:80", "", "127.0.0.1.evil", "[x]"
-        return differences(*[(status(host), 200) for host in allowed], *[((host, status(host)), (host, 403)) for host in refused])
+        check(*[(status(host), 200) for host in allowed], *[((host, status(host)), (host, 403)) for host in refused])
 
 
 def slow_clients():
@@ -213,17 +213,17 @@ def slow_clients():
             return None, time.monotonic() - start
 
         head = b"PUT /k HTTP/1.1\r\nContent-Length: %d\r\n\r\n"
-        found = differences((cache.put("/large", os.urandom(60000000)), 201), (sent(head % 2000000, *[bytes(200000)] * 10)[0], 201))
+        check((cache.put("/large", os.urandom(60000000)), 201), (sent(head % 2000000, *[bytes(200000)] * 10)[0], 201))
         for name, pieces in ("head", [b"GET /k HTTP/1.1\r\n", *[b"A: b\r\n"] * 60]), ("body", [head % 1000, *[bytes(10)] * 60]), ("idle", [b""]):
             status, seconds = sent(*pieces)
-            found += differences(((name, status), (name, None if name == "idle" else status))) + ([f"{name}: it ends after {seconds} s"] if seconds > 8 else [])
-        found += differences((cache.get("/k") == bytes(2000000), True))
+            check(((name, status), (name, None if name == "idle" else status)), ((name, seconds < 8), (name, True)))
+        check((cache.get("/k") == bytes(2000000), True))
         connection, read = begin_to_read(cache, "/large")
         with connection:
-            found += differences((wait_until(lambda: cache.metrics()["connections"] == 1), True))
+            check((wait_until(lambda: cache.metrics()["connections"] == 1), True))
             with contextlib.suppress(ConnectionError):
                 read += b"".join(iter(lambda: connection.recv(1 << 20), b""))
-        return found + (["a client that doesn't read is waited for"] if len(read) == 60000000 else []) + differences((cache.reports(), []))
+        check((len(read) < 60000000, True), (cache.reports(), []))
 
 
 def many_connections():
@@ -232,46 +232,45 @@ def many_connections():
         slow = begin_to_put(cache, 10, b"abc")
         time.sleep(0.3)
         idle = [socket.create_connection(("127.0.0.1", cache.port), timeout=SECONDS) for _ in range(30)]
-        found = differences((cache.put("/k", b"abc"), 201), (idle[0].recv(1), b""))
+        check((cache.put("/k", b"abc"), 201), (idle[0].recv(1), b""))
         slow.sendall(b"defghij")
-        found += differences((status_of(slow.recv(4096)), 201), (cache.get("/slow"), b"abcdefghij"))
+        check((status_of(slow.recv(4096)), 201), (cache.get("/slow"), b"abcdefghij"))
         busy = [begin_to_put(cache, 10, b"abc") for _ in range(8)]
         time.sleep(0.3)
-        found += differences((cache.raw(b"GET /k HTTP/1.1\r\n\r\n"), b""))
+        check((cache.raw(b"GET /k HTTP/1.1\r\n\r\n"), b""))
         for connection in [slow, *idle, *busy]:
             connection.close()
-        return found + differences((wait_until(lambda: cache.raw(b"GET /k HTTP/1.1\r\n\r\n")[-3:] == b"abc"), True), (cache.reports(), []))
+        check((wait_until(lambda: cache.raw(b"GET /k HTTP/1.1\r\n\r\n")[-3:] == b"abc"), True), (cache.reports(), []))
 
 
 def connections_that_are_kept():
     """A connection serves several requests, unless it is one of HTTP/1.0; a client that waits to be asked for its body is asked, once that will be read."""
     with new_cache("--max-body", "1000") as cache:
         connection = http.client.HTTPConnection("127.0.0.1", cache.port, timeout=SECONDS)
-        found = []
         for method, key, body, status in ("PUT", "/k", b"abc", 201), ("GET", "/k", None, 200), ("HEAD", "/k", None, 200), ("GET", "/none", None, 404), ("DELETE", "/k", None, 204), ("GET", "/k", None, 404):
             connection.request(method, key, body)
             used = connection.sock
             answer = connection.getresponse()
             answer.read()
-            found += differences((answer.status, status), (connection.sock is used, True))
+            check((answer.status, status), (connection.sock is used, True))
         connection.close()
-        found += differences((cache.ask("POST", "/k", b"x")[0], 501), (cache.ask("PATCH", "/k")[0], 501))
+        check((cache.ask("POST", "/k", b"x")[0], 501), (cache.ask("PATCH", "/k")[0], 501))
         both = cache.raw(b"PUT /a HTTP/1.1\r\nContent-Length: 1\r\n\r\naGET /a HTTP/1.1\r\n\r\n")
-        found += differences((both.count(b"HTTP/1.1 "), 2), (both[-1:], b"a"), (b"Connection: close" in cache.raw(b"GET /a HTTP/1.0\r\nConnection: keep-alive\r\n\r\n", False), True))
+        check((both.count(b"HTTP/1.1 "), 2), (both[-1:], b"a"), (b"Connection: close" in cache.raw(b"GET /a HTTP/1.0\r\nConnection: keep-alive\r\n\r\n", False), True))
         asked = cache.raw(b"PUT /a HTTP/1.1\r\nContent-Length: 1\r\nExpect: 100-continue\r\n\r\nb")
         refused = cache.raw(b"PUT /a HTTP/1.1\r\nContent-Length: 1001\r\nExpect: 100-continue\r\n\r\n")
-        return found + differences((status_of(asked), 100), (asked.count(b"HTTP/1.1 "), 2), (cache.get("/a"), b"b"), (status_of(refused), 413))
+        check((status_of(asked), 100), (asked.count(b"HTTP/1.1 "), 2), (cache.get("/a"), b"b"), (status_of(refused), 413))
 
 
 def counts():
     """Metrics count what was done."""
     with new_cache("--limit", "1M") as cache:
-        found = differences((cache.put("/a", b"abc"), 201), (cache.get("/a"), b"abc"), (cache.get("/b"), 404), (cache.ask("HEAD", "/a")[0], 200), (cache.ask("DELETE", "/b")[0], 404))
-        found += differences((cache.ask("GET", "/healthz"), (200, b"ok\n")))
+        check((cache.put("/a", b"abc"), 201), (cache.get("/a"), b"abc"), (cache.get("/b"), 404), (cache.ask("HEAD", "/a")[0], 200), (cache.ask("DELETE", "/b")[0], 404))
+        check((cache.ask("GET", "/healthz"), (200, b"ok\n")))
         values = cache.metrics()
         wanted = {"hits_total": 2, "misses_total": 1, "received_bytes_total": 3, "sent_bytes_total": 3, "evictions_total": 0, "keys": 1, "limit_bytes": 1 << 20, "is_writable": 1}
         wanted.update({f'requests_total{{method="{method}",status="{status}"}}': count for method, status, count in (("PUT", 201, 1), ("GET", 200, 2), ("GET", 404, 1), ("HEAD", 200, 1), ("DELETE", 404, 1))})
-        return found + differences(({name: values.get(name) for name in wanted}, wanted))
+        check(({name: values.get(name) for name in wanted}, wanted))
 
 
 def memory_that_ends():
@@ -286,13 +285,11 @@ def memory_that_ends():
             statuses[status] = statuses.get(status, 0) + 1
         counts_then = cache.metrics()
         last = [number for number in range(60) if cache.get(f"/{number}") == random.Random(number).randbytes(16 << 20)]
-        found = differences((set(statuses) <= {201, 503, 507}, True), (counts_then["evictions_total"] > 0, True), (len(last) > 2, True), (cache.put("/small", b"abc"), 201))
-        return found + differences((cache.get("/small"), b"abc"), ([line for line in cache.reports() if "out of memory" not in line and "is written again" not in line], []))
+        check((set(statuses) <= {201, 503, 507}, True), (counts_then["evictions_total"] > 0, True), (len(last) > 2, True), (cache.put("/small", b"abc"), 201))
+        check((cache.get("/small"), b"abc"), ([line for line in cache.reports() if "out of memory" not in line and "is written again" not in line], []))
 
 
 CASES = (
-    ("a cache's keys", keys), ("a cache's ranges", ranges), ("a cache's tags", tags), ("a cache's evictions", evictions), ("a cache's content that goes while it is read", reads_of_what_goes),
-    ("a cache, and bodies that don't come", bodies_that_do_not_come), ("a cache, and bodies that are too long", bodies_that_are_too_long), ("a cache, and wrong requests", wrong_requests),
-    ("a cache's hosts", hosts), ("a cache's slow clients", slow_clients), ("a cache's many connections", many_connections), ("a cache's connections that are kept", connections_that_are_kept),
-    ("a cache's counts", counts), ("a cache whose memory ends", memory_that_ends),
+    keys, ranges, tags, evictions, reads_of_what_goes, bodies_that_do_not_come, bodies_that_are_too_long, wrong_requests, hosts, slow_clients,
+    many_connections, connections_that_are_kept, counts, memory_that_ends,
 )
