@@ -61,8 +61,7 @@ static void put_by_file(struct thread *t, b3store_sealed *sealed) {
 }
 
 static void put_by_sqlite(struct thread *t, b3store_sealed *sealed) {
-    uint64_t work = 0;
-    must(!b3_hash(t->bytes, len, sealed->address.bytes, B3_HASH_LEN, &work), "hash");
+    b3_hash(t->bytes, len, sealed->address.bytes);
     pthread_mutex_lock(&lock);
     sqlite3_bind_blob(insert, 1, sealed->address.bytes, B3_HASH_LEN, SQLITE_STATIC);
     sqlite3_bind_blob64(insert, 2, t->bytes, len, SQLITE_STATIC);
