@@ -12,5 +12,9 @@ pub mod Cuts
 pub mod Redoing
 pub mod Holding
 pub mod Replaying
+pub mod Counting
+pub mod Lines
+pub mod Putting
 pub mod Following
 pub mod Accepting
+pub mod Running
