@@ -18,3 +18,4 @@ pub mod Putting
 pub mod Following
 pub mod Accepting
 pub mod Running
+pub mod FollowingRows
