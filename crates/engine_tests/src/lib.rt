@@ -1,5 +1,5 @@
-//! Tests of command lines and engines, including the one for scripts, over the public calls of `store_command_line`,
-//! `hash_engines` and `store_engines`.
+//! Tests of command lines, engines and journals, over the public calls of `store_command_line`, `hash_engines`, `store_engines`,
+//! `store_lines` and `store_journal`.
 //! What can be shown by the input and output of a process is in tests/cases.
 #![tactic(auto)]
 
@@ -14,7 +14,13 @@ mod files;
 #[cfg(test)]
 mod growths;
 #[cfg(test)]
+mod journal;
+#[cfg(test)]
+mod journal_writers;
+#[cfg(test)]
 mod promises;
+#[cfg(test)]
+mod replay;
 #[cfg(test)]
 mod sessions;
 #[cfg(test)]
