@@ -31,7 +31,7 @@ struct client {
     const char *kind, *target;
     char *room;
     size_t from, to;
-    long tenant, bytes, count, upload;
+    long tenant, bytes, count;
     char *payload, *addresses;
     char paths[2][LINE];
 };
@@ -127,19 +127,13 @@ static void stamp(struct client *c, long number) {
     memcpy(c->payload + sizeof number, &c->number, sizeof c->number);
 }
 
-/* The next object is begun with the seal of one, so that an object takes one turn. */
-static void put_one(struct client *c, long number, int is_last) {
-    char head[LINE], tail[LINE];
+static void put_one(struct client *c, long number) {
+    char line[LINE];
     stamp(c, number);
-    int head_len = snprintf(head, LINE, "putb %ld 0 %ld\n", c->upload, c->bytes);
-    int tail_len = snprintf(tail, LINE, is_last ? "seal %ld\n" : "seal %ld\nbegin %ld %ld\n", c->upload, c->tenant, c->bytes);
-    struct iovec pieces[] = {{head, (size_t)head_len}, {c->payload, (size_t)c->bytes}, {tail, (size_t)tail_len}};
-    send_all(c, pieces, 3);
-    answer(c, "held ");
+    int len = snprintf(line, LINE, "file %ld %ld\n", c->tenant, c->bytes);
+    struct iovec pieces[] = {{line, (size_t)len}, {c->payload, (size_t)c->bytes}};
+    send_all(c, pieces, 2);
     memcpy(c->addresses + ADDRESS * number, answer(c, "new "), ADDRESS);
-    if (!is_last) {
-        c->upload = atol(answer(c, "upload "));
-    }
 }
 
 static void get_one(struct client *c, long number) {
@@ -239,7 +233,6 @@ static int is_redis(const struct client *c) {
 }
 
 static void begin(struct client *c) {
-    char text[LINE];
     if (is_redis(c)) {
         open_socket(c);
         return;
@@ -255,9 +248,6 @@ static void begin(struct client *c) {
     }
     send_text(c, "tenant 70368744177664\n");
     c->tenant = atol(answer(c, "tenant "));
-    snprintf(text, LINE, "begin %ld %ld\n", c->tenant, c->bytes);
-    send_text(c, text);
-    c->upload = atol(answer(c, "upload "));
 }
 
 static void *put_and_get(void *given) {
@@ -265,7 +255,7 @@ static void *put_and_get(void *given) {
     begin(c);
     pthread_barrier_wait(&together);
     for (long number = 0; number < c->count; number++) {
-        is_redis(c) ? set_one(c, number) : put_one(c, number, number == c->count - 1);
+        is_redis(c) ? set_one(c, number) : put_one(c, number);
     }
     pthread_barrier_wait(&together);
     for (long number = 0; number < c->count; number++) {
@@ -291,7 +281,7 @@ static void *put_on(void *given) {
         if (is_redis(c)) {
             set_one(c, 0);
         } else {
-            put_one(c, 0, 0);
+            put_one(c, 0);
             forget_one(c);
         }
     }
