@@ -4,8 +4,12 @@ ghost use Rattle.std.specs.Prelude.{◌≡◌, [], IfOk, Some};
 ghost use Rattle.store_engines.specs.Audits.{audit_text};
 ghost use Rattle.store_engines.specs.Journals.{journal_fault};
 ghost use Rattle.store_engines.specs.Migrations.{migrate_text};
-ghost use Rattle.store_lines.specs.Script.{Ran, verdict_ending};
-ghost use Rattle.store_lines.specs.Session.{ServedAll};
+ghost use Rattle.store_core.specs.Carried.{IsCarried};
+ghost use Rattle.store_lines.specs.Access.{alone_stands};
+ghost use Rattle.store_lines.specs.Owning.{alone};
+ghost use Rattle.store_lines.specs.Running.{Ran};
+ghost use Rattle.store_lines.specs.Script.{verdict_ending, widest_start};
+ghost use Rattle.store_lines.specs.Turns.{Finishes, ServedAllOver};
 
 use b3_core::Work;
 use std::alloc::Global;
@@ -24,7 +28,7 @@ fn ran(alloc: Global, script: &[u8], work: &mut Work) -> Written<Verdict>
 }
 
 fn served(alloc: Global, lines: &[u8], work: &mut Work) -> Written<Verdict>
-    ensures { IfOk result.1 (λ verdict. ServedAll lines.now (Some []) (Some result.0.items) verdict) }
+    ensures { IfOk result.1 (λ verdict. ServedAllOver alone (alone_stands widest_start) (Finishes alone (λ last. IsCarried last.store)) lines.now (Some []) (Some result.0.items) verdict) }
 {
     let (mut reader, mut writer) = (lines, Vec::new(alloc));
     let ended = serve(alloc, &mut reader, &mut writer, work);

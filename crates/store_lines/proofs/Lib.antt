@@ -1,4 +1,3 @@
-mod Turns
 pub mod ScriptSteps
 pub mod Joining
 pub mod Patterns

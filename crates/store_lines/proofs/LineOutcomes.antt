@@ -1,30 +1,29 @@
 -- What a line results in.
 use Rattle.std.proofs.Common.{◌≡◌, ◌∙◌, ◌+◌, ◌-◌, ◌<◌, ◌≤◌, ℕ, List, [], ◌∷◌, ◌++◌, Some, None, Ok, Err, Result, refl, ap, sym, subst, arith, cond, length, take}
-use Rattle.std.specs.Prelude.{◌&&◌, ◌==◌, Bool, Option, IfOk, OnErr, codes, false, nat_lt, slice_index, true}
+use Rattle.std.specs.Prelude.{◌&&◌, ◌==◌, Bool, IfOk, OnErr, codes, false, nat_lt, slice_index, true}
 use Rattle.std.specs.Io.BufRead.{strip_last}
 use Rattle.std.proofs.lemmas.List.{length-take, take_all}
 use Rattle.edge.specs.Fields.{split_at, space}
 use Rattle.edge.proofs.FieldTexts.{split_found}
 use Rattle.store_books.specs.declared.refusal.Refusal.{Refusal}
-use Rattle.store_core.specs.Questions.{Answers, plan_in}
+use Rattle.store_core.specs.Questions.{Answers}
 use Rattle.store_core.specs.Model.{ModelStore}
 use Rattle.store_core.specs.declared.store.questions.Reply.{Reply}
 use Rattle.store_core.specs.declared.command.Command.{Command}
 use Rattle.store_core.specs.declared.store.questions.Question.{Question}
-use Rattle.store_core.specs.Runs.{Step, ask, change}
+use Rattle.store_core.specs.Runs.{Call, Step, ask, change}
 use Rattle.store_lines.specs.Grammar.{command_at}
 use Rattle.store_lines.specs.declared.request.EntryRange.{EntryRange}
 use Rattle.store_lines.specs.declared.request.Part.{Part}
-use Rattle.store_lines.specs.declared.request.Request.{Request}
 use Rattle.store_lines.specs.declared.request.Request.TheVariants.{Asks, Does, Entries, Put}
-use Rattle.store_lines.specs.Access.{SessionState, alone_reach, alone_stands}
+use Rattle.store_lines.specs.Access.{SessionState, advance, alone_reach, alone_stands, at}
 use Rattle.store_lines.specs.Lines.{IsPutLine}
-use Rattle.store_lines.specs.inner.Answers.{Answered, AnswersRead, PutsRead, reported_ending, reported_text}
-use Rattle.store_lines.specs.Turns.{IsLinkedPut}
+use Rattle.store_lines.specs.inner.Answers.{Answered, AnswersRead, IsTurnOf, PutsRead, reported_ending, reported_text}
+use Rattle.store_lines.specs.Turns.{IsLinkedPut, IsLinkedStep}
 use Rattle.store_lines.specs.inner.Reporting.{AnsweredOver}
-use Rattle.store_lines.proofs.Turns.{of_put}
+use Rattle.store_lines.proofs.Reports.{plays}
 use Rattle.store_lines.proofs.Lengths.{long_is_none}
-use Rattle.store_lines.specs.Script.{IsTurnOfCommand, IsTurnOf, IsTurnOfPut, Turn, bad, listed, range_entries, reply_ending, skipped, took}
+use Rattle.store_lines.specs.Script.{bad, listed, range_entries, reply_ending, skipped, took}
 use Rattle.store_lines.specs.Texts.{entries_text}
 use Rattle.store_lines.specs.Questions.{answer_text}
 use Rattle.store_lines.specs.declared.answer.Answer.{Answer}
@@ -41,74 +40,54 @@ Says reply text ending = (text ≡ answer_text reply) × (ending ≡ reply_endin
 abbrev pub SaysBad : List ℕ → Ending → Type 0
 SaysBad text ending = (text ≡ codes "bad\n") × (ending ≡ endings.Refused)
 
--- ---- a part
-
--- a part's turn, whose upload and bytes are these
-abbrev pub PutTurn : ModelStore → ℕ → ℕ → List ℕ → ModelStore → Turn → Type 0
-PutTurn old upload offset bytes new turn = IsTurnOfPut old upload offset bytes (plan_in old.state upload) turn new
-
--- the turn of a put in a store of its own
-pub put_alone : (old new : ModelStore) (upload offset : ℕ) (bytes : List ℕ) (answer : Answer) → AnsweredOver (alone_stands old) (alone_stands new) (λ before turn after. IsLinkedPut alone_reach before upload offset bytes turn after) answer
-    → Answered (PutTurn old upload offset bytes new) (reported_text new.journal answer) (reported_ending answer)
-put_alone old new upload offset bytes answer h =
-    let before : SessionState = record { store = old; parts = 0; bytes = 0; calls = 0; own = [] } in
-    let g = h.goes before refl in
-    record {
-      turn = h.turn;
-      is = subst (λ (s : ModelStore). IsTurnOfPut old upload offset bytes (plan_in old.state upload) h.turn s) g.1.0 (of_put before g.0 upload offset bytes h.turn g.1.1);
-      text_is = h.text_is new.journal;
-      ending_is = h.ending_is;
-    }
-
 -- ---- a line
 
-abbrev pub LineTurn : ModelStore → List ℕ → ModelStore → Turn → Type 0
-LineTurn old line new turn = IsTurnOf old line turn new
+-- a step of a store that nobody else changes
+stepped : (old new : ModelStore) (call : Call) (reply : Result Reply Refusal) → Step old call reply new → (before : SessionState) → alone_stands old before → (after : SessionState) × (alone_stands new after × IsLinkedStep alone_reach before call (took call reply) after)
+stepped old new call reply step before is = (advance before old call reply new, (refl, (old, (sym is, ((refl, step), (refl, refl, refl, refl))))))
 
-plays : (old new : ModelStore) (line : List ℕ) (turn : Turn) (command : Option Request) → 0 < length line → command ≡ command_at line → IsTurnOfCommand old command turn new → IsTurnOf old line turn new
-plays old new [] turn command some is h = absurd (omega (arith, some))
-plays old new (b ∷ line) turn command some is h = subst (λ o. IsTurnOfCommand old o turn new) is h
-
-pub nothing : (old : ModelStore) (line text : List ℕ) (ending : Ending) → length line ≡ 0 → text ≡ [] → ending ≡ endings.Good → Answered (LineTurn old line old) text ending
-nothing old [] text ending none text_is ending_is = record { turn = skipped; is = (refl, refl); text_is = text_is; ending_is = ending_is }
+pub nothing : (old : ModelStore) (line text : List ℕ) (ending : Ending) → length line ≡ 0 → text ≡ [] → ending ≡ endings.Good → Answered (IsTurnOf old line old) text ending
+nothing old [] text ending none text_is ending_is = record { turn = skipped; is = λ before is. (before, (is, (refl, refl))); text_is = text_is; ending_is = ending_is }
 nothing old (b ∷ line) text ending none text_is ending_is = absurd (omega (arith, none))
 
-pub no_command : (old : ModelStore) (line text : List ℕ) (ending : Ending) → 0 < length line → None ≡ command_at line → SaysBad text ending → Answered (LineTurn old line old) text ending
-no_command old line text ending some is says = record { turn = bad; is = plays old old line bad None some is (refl, refl); text_is = says.0; ending_is = says.1 }
+pub no_command : (old : ModelStore) (line text : List ℕ) (ending : Ending) → 0 < length line → None ≡ command_at line → SaysBad text ending → Answered (IsTurnOf old line old) text ending
+no_command old line text ending some none says = record {
+  turn = bad;
+  is = λ before is. (before, (is, plays alone_reach before before line bad None some none (refl, refl)));
+  text_is = says.0;
+  ending_is = says.1;
+}
 
-pub done : (old new : ModelStore) (line text : List ℕ) (ending : Ending) (command : Command) (reply : Result Reply Refusal) → 0 < length line → Some (Does command) ≡ command_at line → Step old (change command) reply new → Says reply text ending → Answered (LineTurn old line new) text ending
-done old new line text ending command reply some is step says = record {
+pub done : (old new : ModelStore) (line text : List ℕ) (ending : Ending) (command : Command) (reply : Result Reply Refusal) → 0 < length line → Some (Does command) ≡ command_at line → Step old (change command) reply new → Says reply text ending → Answered (IsTurnOf old line new) text ending
+done old new line text ending command reply some spelled step says = record {
   turn = took (change command) reply;
-  is = plays old new line (took (change command) reply) (Some (Does command)) some is (refl, step);
+  is = λ before is. let s = stepped old new (change command) reply step before is in (s.0, (s.1.0, plays alone_reach before s.0 line (took (change command) reply) (Some (Does command)) some spelled s.1.1));
   text_is = says.0;
   ending_is = says.1;
 }
 
-pub asked : (old : ModelStore) (line text : List ℕ) (ending : Ending) (question : Question) (reply : Result Reply Refusal) → 0 < length line → Some (Asks question) ≡ command_at line → Answers old question reply → Says reply text ending → Answered (LineTurn old line old) text ending
-asked old line text ending question reply some is answers says = record {
+pub asked : (old : ModelStore) (line text : List ℕ) (ending : Ending) (question : Question) (reply : Result Reply Refusal) → 0 < length line → Some (Asks question) ≡ command_at line → Answers old question reply → Says reply text ending → Answered (IsTurnOf old line old) text ending
+asked old line text ending question reply some spelled answers says = record {
   turn = took (ask question) reply;
-  is = plays old old line (took (ask question) reply) (Some (Asks question)) some is (refl, (answers, refl));
+  is = λ before is. let s = stepped old old (ask question) reply (answers, refl) before is in (s.0, (s.1.0, plays alone_reach before s.0 line (took (ask question) reply) (Some (Asks question)) some spelled s.1.1));
   text_is = says.0;
   ending_is = says.1;
 }
 
-pub listed_these : (old : ModelStore) (line : List ℕ) (range : EntryRange) → 0 < length line → Some (Entries range) ≡ command_at line → Answered (LineTurn old line old) (entries_text (range_entries range old.journal)) endings.Good
-listed_these old line range some is = record {
+pub listed_these : (old : ModelStore) (line : List ℕ) (range : EntryRange) → 0 < length line → Some (Entries range) ≡ command_at line → Answered (IsTurnOf old line old) (entries_text (range_entries range old.journal)) endings.Good
+listed_these old line range some spelled = record {
   turn = listed (range_entries range old.journal);
-  is = plays old old line (listed (range_entries range old.journal)) (Some (Entries range)) some is (refl, refl);
+  is = λ before is. (at before old, (refl, plays alone_reach before (at before old) line (listed (range_entries range old.journal)) (Some (Entries range)) some spelled (old, (sym is, (refl, refl)))));
   text_is = refl;
   ending_is = refl;
 }
 
--- a request that a script does not have
-pub no_script : (old : ModelStore) (line : List ℕ) (request : Request) → 0 < length line → Some request ≡ command_at line → IsTurnOfCommand old (Some request) bad old → Answered (LineTurn old line old) (codes "bad\n") endings.Refused
-no_script old line request some is h = record { turn = bad; is = plays old old line bad (Some request) some is h; text_is = refl; ending_is = refl }
-
-pub put_asked : (old new : ModelStore) (line text : List ℕ) (ending : Ending) (part : Part) → 0 < length line → Some (Put part) ≡ command_at line → Answered (PutTurn old part.upload part.offset part.bytes new) text ending → Answered (LineTurn old line new) text ending
-put_asked old new line text ending part some is h = record {
+pub put_asked : (old new : ModelStore) (line : List ℕ) (part : Part) (answer : Answer) → 0 < length line → Some (Put part) ≡ command_at line → AnsweredOver (alone_stands old) (alone_stands new) (λ before turn after. IsLinkedPut alone_reach before part.upload part.offset part.bytes turn after) answer
+    → Answered (IsTurnOf old line new) (reported_text new.journal answer) (reported_ending answer)
+put_asked old new line part answer some spelled h = record {
   turn = h.turn;
-  is = plays old new line h.turn (Some (Put part)) some is h.is;
-  text_is = h.text_is;
+  is = λ before is. let g = h.goes before is in (g.0, (g.1.0, plays alone_reach before g.0 line h.turn (Some (Put part)) some spelled g.1.1));
+  text_is = h.text_is new.journal;
   ending_is = h.ending_is;
 }
 
@@ -131,13 +110,13 @@ long_line old count kept long = record {
 }
 
 -- any other is kept whole
-pub short_line : {E : Type 0} (r : Result Answer E) (old new : ModelStore) (count : ℕ) (kept line : List ℕ) → count ≤ 33554481 → line ≡ strip_last 10 kept → IfOk r (λ a. Answered (LineTurn old line new) (reported_text new.journal a) (reported_ending a))
+pub short_line : {E : Type 0} (r : Result Answer E) (old new : ModelStore) (count : ℕ) (kept line : List ℕ) → count ≤ 33554481 → line ≡ strip_last 10 kept → IfOk r (λ a. Answered (IsTurnOf old line new) (reported_text new.journal a) (reported_ending a))
     → IfOk r (λ a. AnswersRead old new count kept (reported_text new.journal a) (reported_ending a))
 short_line (Err e) old new count kept line short is h = tt
 short_line (Ok a) old new count kept line short is h = record {
   answers = λ whole read.
       let all : kept ≡ whole = read.1 ∙ take_all 33554481 whole (omega (arith, short, read.0)) in
-      subst (λ (l : List ℕ). Answered (LineTurn old l new) (reported_text new.journal a) (reported_ending a)) (is ∙ ap (strip_last 10) all) h;
+      subst (λ (l : List ℕ). Answered (IsTurnOf old l new) (reported_text new.journal a) (reported_ending a)) (is ∙ ap (strip_last 10) all) h;
 }
 
 -- ---- out of memory

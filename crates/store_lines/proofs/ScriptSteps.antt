@@ -19,12 +19,16 @@ use Rattle.edge.specs.Output.{WroteSome}
 use Rattle.edge.proofs.Joining.{appends_more, appends_none}
 use Rattle.edge.proofs.Output.{some_after}
 use Rattle.store_core.specs.Model.{ModelStore, start}
-use Rattle.store_core.specs.Runs.{Call, Run, Step, ask, change}
+use Rattle.store_core.specs.Runs.{Call, Run, Step, ask, change, put}
 use Rattle.store_lines.specs.Grammar.{command_at}
 use Rattle.store_lines.specs.declared.request.Request.{Request}
-use Rattle.store_lines.specs.declared.request.Request.TheVariants.{Asks, Does, Put}
+use Rattle.store_lines.specs.declared.request.EntryRange.{EntryRange}
+use Rattle.store_lines.specs.declared.request.Request.TheVariants.{Asks, Does, Entries, Put}
 use Rattle.store_lines.specs.inner.Answers.{AnswersRead, IsReadLine}
-use Rattle.store_lines.specs.Script.{AreTurnsOf, AreAnswered, IsTurnOfCommand, IsScriptBegun, IsTurnOfMade, IsTurnOf, IsTurnOfPart, IsTurnOfPut, Ran, RanCut, RanOut, RanSome, IsTurnOfStep, Turn, bad, calls_of, ending_of, failed_write, listed, ran_all, ran_some, replies_of, skipped, took, turn_ending, turn_text, unmade, unplanned, verdict_ending, widest_start, worse}
+use Rattle.store_lines.specs.Access.{SessionState, alone_reach, alone_stands, at, newly}
+use Rattle.store_lines.specs.Turns.{IsLinkedCommand, IsLinkedLine, IsLinkedListing, IsLinkedMade, IsLinkedPart, IsLinkedPlan, IsLinkedPut, IsLinkedStep}
+use Rattle.store_lines.specs.Running.{AreAnswered, AreTurnsOf, IsScriptBegun, Ran, RanCut, RanOut, RanSome, failed_write, ran_all, ran_some}
+use Rattle.store_lines.specs.Script.{IsTurnOfStep, Turn, bad, calls_of, ending_of, listed, replies_of, skipped, took, turn_ending, turn_text, unmade, unplanned, verdict_ending, widest_start, worse}
 use Rattle.store_lines.specs.inner.Script.{ended_as, first_cause}
 use Rattle.store_lines.specs.declared.ending.Ending.{Ending}
 use Rattle.store_lines.specs.declared.ending.Ending.TheVariants as endings
@@ -35,8 +39,8 @@ use Rattle.store_core.proofs.Runs.{runs_carry}
 
 -- ---- a line more
 
-more_play : (old mid new : ModelStore) (front : List (List ℕ)) (turns : List Turn) (line : List ℕ) (turn : Turn) → AreTurnsOf old front turns mid → IsTurnOf mid line turn new → AreTurnsOf old (front ++ line ∷ []) (turns ++ turn ∷ []) new
-more_play old mid new [] [] line turn h p = (new, subst (λ (s : ModelStore). IsTurnOf s line turn new) h p, refl)
+more_play : (old mid new : SessionState) (front : List (List ℕ)) (turns : List Turn) (line : List ℕ) (turn : Turn) → AreTurnsOf old front turns mid → IsLinkedLine alone_reach mid line turn new → AreTurnsOf old (front ++ line ∷ []) (turns ++ turn ∷ []) new
+more_play old mid new [] [] line turn h p = (new, subst (λ (s : SessionState). IsLinkedLine alone_reach s line turn new) h p, refl)
 more_play old mid new [] (t ∷ turns) line turn h p = absurd h
 more_play old mid new (l ∷ front) [] line turn h p = absurd h
 more_play old mid new (l ∷ front) (t ∷ turns) line turn h p = (h.0, h.1, more_play h.0 mid new front turns line turn h.2 p)
@@ -73,7 +77,7 @@ Came old (unmade fault) new = new ≡ old
 Came old (took call reply) new = Step old call reply new
 Came old (listed entries) new = new ≡ old
 
-pub came_takes : (old new : ModelStore) (call : Call) (turn : Turn) → IsTurnOfStep old call turn new → Came old turn new
+came_takes : (old new : ModelStore) (call : Call) (turn : Turn) → IsTurnOfStep old call turn new → Came old turn new
 came_takes old new call skipped h = absurd h
 came_takes old new call bad h = absurd h
 came_takes old new call (unplanned refusal) h = absurd h
@@ -81,31 +85,44 @@ came_takes old new call (unmade fault) h = absurd h
 came_takes old new call (listed entries) h = absurd h
 came_takes old new call (took asked reply) h = subst (λ (c : Call). Step old c reply new) (sym h.0) h.1
 
-came_puts : (old new : ModelStore) (upload : ℕ) (part : ModelPrepared) (turn : Turn) → IsTurnOfPart old upload part turn new → Came old turn new
-came_puts old new upload part skipped h = absurd h
-came_puts old new upload part bad h = absurd h
-came_puts old new upload part (unplanned refusal) h = absurd h
-came_puts old new upload part (unmade fault) h = h.1
-came_puts old new upload part (listed entries) h = absurd h
-came_puts old new upload part (took asked reply) h = subst (λ (c : Call). Step old c reply new) (sym h.0) h.1
+pub same : {old new : SessionState} → new ≡ old → new.store ≡ old.store
+same h = ap (λ (s : SessionState). s.store) h
 
-came_makes : (old new : ModelStore) (upload : ℕ) (part : ModelPrepared) (refused : Option PartFault) (turn : Turn) → IsTurnOfMade old upload part refused turn new → Came old turn new
-came_makes old new upload part (Some fault) turn h = subst (λ (t : Turn). Came old t new) (sym h.0) h.1
-came_makes old new upload part None turn h = came_puts old new upload part turn h
+pub came_step : (old new : SessionState) (call : Call) (turn : Turn) → IsLinkedStep alone_reach old call turn new → Came old.store turn new.store
+came_step old new call turn h = subst (λ (s : ModelStore). Came s turn new.store) h.1.0 (came_takes h.0 new.store call turn h.1.1.0)
 
-pub came_put : (old new : ModelStore) (upload offset : ℕ) (bytes : List ℕ) (made_by : Result UploadPlan Refusal) (turn : Turn) → IsTurnOfPut old upload offset bytes made_by turn new → Came old turn new
-came_put old new upload offset bytes (Err refusal) turn h = subst (λ (t : Turn). Came old t new) (sym h.0) h.1
-came_put old new upload offset bytes (Ok made_for) turn h = came_makes old new upload (planned made_for offset bytes) (part_fault made_for offset (length bytes)) turn h
+came_part : (old new : SessionState) (upload : ℕ) (part : ModelPrepared) (turn : Turn) → IsLinkedPart alone_reach old upload part turn new → Came old.store turn new.store
+came_part old new upload part skipped h = absurd h
+came_part old new upload part bad h = absurd h
+came_part old new upload part (unplanned refusal) h = absurd h
+came_part old new upload part (unmade fault) h = same h.1
+came_part old new upload part (listed entries) h = absurd h
+came_part old new upload part (took asked reply) h = came_step old new (put upload part) (took asked reply) h
 
-came_does : (old new : ModelStore) (command : Option Request) (turn : Turn) → IsTurnOfCommand old command turn new → Came old turn new
-came_does old new None turn h = subst (λ (t : Turn). Came old t new) (sym h.0) h.1
-came_does old new (Some (Does command)) turn h = came_takes old new (change command) turn h
-came_does old new (Some (Asks question)) turn h = came_takes old new (ask question) turn h
-came_does old new (Some (Put part)) turn h = came_put old new part.upload part.offset part.bytes (plan_in old.state part.upload) turn h
-came_does old new (Some _) turn h = subst (λ (t : Turn). Came old t new) (sym h.0) h.1
+came_made : (old new : SessionState) (upload : ℕ) (part : ModelPrepared) (refused : Option PartFault) (turn : Turn) → IsLinkedMade alone_reach old upload part refused turn new → Came old.store turn new.store
+came_made old new upload part (Some fault) turn h = subst (λ (t : Turn). Came old.store t new.store) (sym h.0) (same h.1)
+came_made old new upload part None turn h = came_part old new upload part turn h
 
-pub came : (old new : ModelStore) (line : List ℕ) (turn : Turn) → IsTurnOf old line turn new → Came old turn new
-came old new [] turn h = subst (λ (t : Turn). Came old t new) (sym h.0) h.1
+came_plan : (old new : SessionState) (upload offset : ℕ) (bytes : List ℕ) (plan : Result UploadPlan Refusal) (turn : Turn) → IsLinkedPlan alone_reach old upload offset bytes plan turn new → Came old.store turn new.store
+came_plan old new upload offset bytes (Err refusal) turn h = subst (λ (t : Turn). Came old.store t new.store) (sym h.0) (same h.1)
+came_plan old new upload offset bytes (Ok plan) turn h = came_made old new upload (planned plan offset bytes) (part_fault plan offset (length bytes)) turn h
+
+pub came_put : (old new : SessionState) (upload offset : ℕ) (bytes : List ℕ) (turn : Turn) → IsLinkedPut alone_reach old upload offset bytes turn new → Came old.store turn new.store
+came_put old new upload offset bytes turn h = subst (λ (s : ModelStore). Came s turn new.store) h.1.0 (came_plan (at old h.0) new upload offset bytes (plan_in h.0.state upload) turn h.1.1)
+
+pub came_listing : (old new : SessionState) (range : EntryRange) (turn : Turn) → IsLinkedListing alone_reach old range turn new → Came old.store turn new.store
+came_listing old new range turn h = subst (λ (t : Turn). Came old.store t new.store) (sym h.1.1.0) (same h.1.1.1 ∙ h.1.0)
+
+came_does : (old new : SessionState) (command : Option Request) (turn : Turn) → IsLinkedCommand alone_reach old command turn new → Came old.store turn new.store
+came_does old new None turn h = subst (λ (t : Turn). Came old.store t new.store) (sym h.0) (same h.1)
+came_does old new (Some (Does command)) turn h = came_step old new (change command) turn h
+came_does old new (Some (Asks question)) turn h = came_step old new (ask question) turn h
+came_does old new (Some (Put part)) turn h = came_put old new part.upload part.offset part.bytes turn h
+came_does old new (Some (Entries range)) turn h = came_listing old new range turn h
+came_does old new (Some _) turn h = subst (λ (t : Turn). Came old.store t new.store) (sym h.0) (same h.1)
+
+pub came : (old new : SessionState) (line : List ℕ) (turn : Turn) → IsLinkedLine alone_reach old line turn new → Came old.store turn new.store
+came old new [] turn h = subst (λ (t : Turn). Came old.store t new.store) (sym h.0) (same h.1)
 came old new (b ∷ line) turn h = came_does old new (command_at (b ∷ line)) turn h
 
 run_on : (old mid new : ModelStore) (turn : Turn) (turns : List Turn) → Came old turn mid → Run mid (calls_of turns) (replies_of turns) new → Run old (calls_of (turn ∷ turns)) (replies_of (turn ∷ turns)) new
@@ -116,11 +133,11 @@ run_on old mid new (listed entries) turns h r = subst (λ (s : ModelStore). Run 
 run_on old mid new (unmade fault) turns h r = subst (λ (s : ModelStore). Run s (calls_of turns) (replies_of turns) new) h r
 run_on old mid new (took call reply) turns h r = (mid, h, r)
 
-runs : (old new : ModelStore) (lines : List (List ℕ)) (turns : List Turn) → AreTurnsOf old lines turns new → Run old (calls_of turns) (replies_of turns) new
-runs old new [] [] h = h
+runs : (old new : SessionState) (lines : List (List ℕ)) (turns : List Turn) → AreTurnsOf old lines turns new → Run old.store (calls_of turns) (replies_of turns) new.store
+runs old new [] [] h = same h
 runs old new [] (turn ∷ turns) h = absurd h
 runs old new (line ∷ lines) [] h = absurd h
-runs old new (line ∷ lines) (turn ∷ turns) h = run_on old h.0 new turn turns (came old h.0 line turn h.1) (runs h.0 new lines turns h.2)
+runs old new (line ∷ lines) (turn ∷ turns) h = run_on old.store h.0.store new.store turn turns (came old h.0 line turn h.1) (runs h.0 new lines turns h.2)
 
 -- ---- a run under way
 
@@ -131,7 +148,9 @@ pub record IsUnder (now was is : Option (List ℕ)) (store : ModelStore) (ending
   pub front : List (List ℕ)
   pub lines : lines_of input ≡ front ++ lines_of rest
   pub turns : List Turn
-  pub plays : AreTurnsOf widest_start front turns store
+  pub end : SessionState
+  pub stands : alone_stands store end
+  pub plays : AreTurnsOf (newly widest_start) front turns end
   pub wrote : Appends was is (flat_map turn_text turns)
   pub ending_is : ending ≡ ending_of turns
 
@@ -143,21 +162,25 @@ begun (Some input) was store is = record {
   front = [];
   lines = refl;
   turns = [];
-  plays = is;
+  end = newly widest_start;
+  stands = sym is;
+  plays = refl;
   wrote = appends_none was;
   ending_is = refl;
 }
 
-are_answered : (front : List (List ℕ)) (turns : List Turn) (store : ModelStore) (ending : Ending) → AreTurnsOf widest_start front turns store → ending ≡ ending_of turns → AreAnswered front (flat_map turn_text turns) ending
-are_answered front turns store ending plays is = record {
-  turns = turns;
-  end = store;
-  plays = plays;
-  run = runs widest_start store front turns plays;
-  law = (runs_carry widest_start store (calls_of turns) (replies_of turns) (empty_carried max_tenants max_entries max_workers (omega arith) (omega arith)) (runs widest_start store front turns plays)).0;
-  text_is = refl;
-  ending_is = is;
-}
+are_answered : (front : List (List ℕ)) (turns : List Turn) (end : SessionState) (ending : Ending) → AreTurnsOf (newly widest_start) front turns end → ending ≡ ending_of turns → AreAnswered front (flat_map turn_text turns) ending
+are_answered front turns end ending plays is =
+    let run = runs (newly widest_start) end front turns plays in
+    record {
+      turns = turns;
+      end = end;
+      plays = plays;
+      run = run;
+      law = (runs_carry widest_start end.store (calls_of turns) (replies_of turns) (empty_carried max_tenants max_entries max_workers (omega arith) (omega arith)) run).0;
+      text_is = refl;
+      ending_is = is;
+    }
 
 pub at_end : (old now was is : Option (List ℕ)) (store : ModelStore) (ending : Ending) → IfSome old (IsUnder now was is store ending) → IsAtEnd now → IfSome old (λ input. Ran input was is ending)
 at_end None now was is store ending h e = tt
@@ -166,7 +189,7 @@ at_end (Some input) now was is store ending h e =
     let all : lines_of input ≡ h.front = h.lines ∙ ap (λ (rest : List ℕ). h.front ++ lines_of rest) none ∙ ap (λ ls. h.front ++ ls) none_left ∙ append-nil h.front in
     record {
       output = flat_map turn_text h.turns;
-      script = subst (λ (ls : List (List ℕ)). AreAnswered ls (flat_map turn_text h.turns) ending) (sym all) (are_answered h.front h.turns store ending h.plays h.ending_is);
+      script = subst (λ (ls : List (List ℕ)). AreAnswered ls (flat_map turn_text h.turns) ending) (sym all) (are_answered h.front h.turns h.end ending h.plays h.ending_is);
       wrote = h.wrote;
     }
 
@@ -208,7 +231,7 @@ script_begun now was is store ending input h = record {
   front = h.front;
   back = lines_of h.rest;
   lines = h.lines;
-  answered = are_answered h.front h.turns store ending h.plays h.ending_is;
+  answered = are_answered h.front h.turns h.end ending h.plays h.ending_is;
 }
 
 -- a failed read is reported only where no answer before reported out of memory
@@ -268,6 +291,8 @@ whatever_written (Some input) now was is store ending h = record {
   front = h.front;
   lines = h.lines;
   turns = h.turns;
+  end = h.end;
+  stands = h.stands;
   plays = h.plays;
   wrote = tt;
   ending_is = h.ending_is;
@@ -316,13 +341,16 @@ turned (Some input) now then was is after store next ending said count kept text
     let line = strip_last 10 whole in
     let some2 : 0 < length whole = omega (arith, some, read2.0) in
     let answer = answered.answers whole read2 in
+    let goes = answer.is h.end h.stands in
     record {
       rest = drop_through 10 h.rest;
       left = rest2;
       front = h.front ++ line ∷ [];
       lines = h.lines ∙ ap (λ ls. h.front ++ ls) (lines_next h.rest some2) ∙ sym (append_assoc h.front (line ∷ []) (lines_of (drop_through 10 h.rest)));
       turns = h.turns ++ answer.turn ∷ [];
-      plays = more_play widest_start store next h.front h.turns line answer.turn h.plays answer.is;
+      end = goes.0;
+      stands = goes.1.0;
+      plays = more_play (newly widest_start) h.end goes.0 h.front h.turns line answer.turn h.plays goes.1.1;
       wrote = subst (λ (t : List ℕ). Appends was after t) (ap (λ t. flat_map turn_text h.turns ++ t) answer.text_is ∙ sym (text_more h.turns answer.turn)) (appends_more was is after (flat_map turn_text h.turns) text h.wrote wrote);
       ending_is = ap (λ e. worse e said) h.ending_is ∙ ap (worse (ending_of h.turns)) answer.ending_is ∙ sym (ending_more h.turns answer.turn);
     }

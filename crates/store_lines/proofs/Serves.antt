@@ -8,9 +8,9 @@ use Rattle.store_lines.specs.Grammar.{command_at}
 use Rattle.store_lines.specs.inner.Answers.{reported_text}
 use Rattle.store_lines.specs.Script.{bad, skipped}
 use Rattle.store_lines.specs.declared.answer.Answer.{Answer}
-use Rattle.store_lines.specs.inner.Requests.{IsFound, IsLineOf, IsOwnOrScript}
+use Rattle.store_lines.specs.inner.Requests.{IsFound, IsLineOf, IsOwnOrScript, MayTakeMemory}
 use Rattle.store_lines.specs.Requests.{request_in}
-use Rattle.store_lines.specs.Session.{IsShort, MayTakeMemory, SessionTurn, as_script, filed, no_memory, reported_as, session_turn_text}
+use Rattle.store_lines.specs.Session.{IsShort, SessionTurn, as_script, filed, no_memory, reported_as, session_turn_text}
 use Rattle.edge.specs.declared.lines.LineRead.{LineRead}
 use Rattle.store_lines.specs.declared.request.Request.{Request}
 use Rattle.store_lines.specs.declared.request.Filing.{Filing}

@@ -112,3 +112,7 @@ alone_reach = record { links = λ left found. found ≡ left; lacks = ⊥; needs
 
 abbrev pub alone_stands : ModelStore → SessionState → Type 0
 alone_stands store session = session.store ≡ store
+
+-- before its first line
+abbrev pub newly : ModelStore → SessionState
+newly found = record { store = found; parts = 0; bytes = 0; calls = 0; own = [] }

@@ -12,5 +12,6 @@ pub mod Session
 pub mod Access
 pub mod Owning
 pub mod Turns
+pub mod Running
 pub mod Loading
 pub mod inner

@@ -1,4 +1,4 @@
--- A session over a store that others may change between its steps: its lines, and their answers.
+-- A session's lines, and their answers. Others may change its store between its steps, as its access says.
 use Rattle.std.specs.Prelude.{◌≡◌, ◌+◌, ◌++◌, ◌<◌, ◌≤◌, ◌⊎◌, ℕ, true, false, List, [], ◌∷◌, Option, Some, None, Result, Ok, Err, drop, length, take}
 use Rattle.std.specs.List.{flat_map}
 use Rattle.std.specs.Io.BufRead.{drop_through, strip_last, take_through}
@@ -9,7 +9,7 @@ use Rattle.edge.specs.declared.outcome.Verdict.TheVariants as verdicts
 use Rattle.store_books.specs.declared.refusal.Refusal.{Refusal}
 use Rattle.store_core.specs.Questions.{plan_in}
 use Rattle.store_core.specs.Model.{ModelStore}
-use Rattle.store_core.specs.Runs.{Call, ask, change, put}
+use Rattle.store_core.specs.Runs.{Call, Run, ask, change, put}
 use Rattle.store_core.specs.declared.store.questions.Question.TheVariants as questions
 use Rattle.store_lines.specs.Grammar.{command_at, whole_journal}
 use Rattle.store_lines.specs.declared.request.Request.{Request}
@@ -21,14 +21,15 @@ use Rattle.edge.specs.Lines.{HasNewline}
 use Rattle.edge.specs.Output.{WroteSome}
 use Rattle.store_lines.specs.Lines.{max_request}
 use Rattle.store_lines.specs.Requests.{request_in}
-use Rattle.store_lines.specs.Session.{Ends, Manner, SessionTurn, as_range, as_script, filed, no_memory, session_turn_text, reported_as}
+use Rattle.store_lines.specs.Session.{IsShort, Manner, SessionTurn, as_range, as_script, filed, no_memory, session_calls, session_replies, session_turn_text, reported_as}
 use Rattle.store_lines.specs.declared.request.EntryRange.{EntryRange}
 use Rattle.store_lines.specs.declared.request.Filing.{Filing}
 use Rattle.store_upload.specs.Uploads.{UploadPlan, part_fault}
 use Rattle.store_upload.specs.declared.refusal.PartFault.{PartFault}
 use Rattle.store_upload.specs.declared.refusal.PartFault.TheVariants as faults
-use Rattle.store_lines.specs.Access.{IsSince, Reach, SessionState, at, took_bytes, took_calls, took_numbers}
-use Rattle.store_lines.specs.Owning.{IsBeginLine, Session, begins, own_of}
+use Rattle.store_lines.specs.Access.{IsSince, Reach, SessionState, alone_reach, at, took_bytes, took_calls, took_numbers}
+use Rattle.store_lines.specs.Owning.{IsBeginLine, Session, begins, own_of, session_of}
+use Rattle.store_lines.specs.declared.owning.UploadsAtEnd.{UploadsAtEnd}
 use Rattle.store_lines.specs.declared.owning.UploadsAtEnd.TheVariants as at_end
 use Rattle.store_core.specs.declared.command.Command.{Command}
 use Rattle.store_core.specs.declared.command.Command.TheVariants as commands
@@ -150,7 +151,7 @@ IsLinkedFirstLine session old input turn new rest = (0 < length input) × (sessi
 -- no bytes remain; or a part or a file whose bytes are truncated, or a line without the newline that it needs
 abbrev pub EndsOver : Reach → Verdict → List ℕ → Type 0
 EndsOver reach verdicts.Good rest = rest ≡ []
-EndsOver reach verdicts.Refused rest = Ends verdicts.Refused rest ⊎ ((reach.needs_newline ≡ true) × (0 < length rest) × (HasNewline (take_through 10 rest) → ⊥))
+EndsOver reach verdicts.Refused rest = IsShort (request_in (take_through 10 rest)) (drop_through 10 rest) ⊎ ((reach.needs_newline ≡ true) × (0 < length rest) × (HasNewline (take_through 10 rest) → ⊥))
 
 -- lines in order, each with its turn, from states that are linked to what was left before
 abbrev pub AreLinkedTurns : Session → SessionState → List ℕ → List SessionTurn → SessionState → List ℕ → Type 0
@@ -222,3 +223,15 @@ pub record ServedCutOver (session : Session) (was : SessionState → Type 0) (Th
 -- lines of a prefix of the input were answered in order, and the next one left this
 abbrev pub StoppedOver : Session → (SessionState → Type 0) → (SessionState → Type 0) → List ℕ → Type 0
 StoppedOver session was is input = (output : List ℕ) × (rest : List ℕ) × ServedOver session was (λ turns last. is last) input output rest
+
+-- ---- laws
+
+-- how an input splits into lines and bytes depends only on the input, and not on what is kept, on others or on failed allocations
+abbrev pub FramesAlike : Reach → Type 0
+FramesAlike reach = (uploads : UploadsAtEnd) (old new old2 new2 : SessionState) (input : List ℕ) (turns turns2 : List SessionTurn) (rest rest2 : List ℕ)
+    → AreLinkedTurns (session_of reach uploads) old input turns new rest → AreLinkedTurns (session_of reach uploads) old2 input turns2 new2 rest2 → length turns ≡ length turns2 → rest ≡ rest2
+
+-- the steps among turns in a store that nobody else changes are a run of the store
+abbrev pub StepsAreRun : Type 0
+StepsAreRun = (uploads : UploadsAtEnd) (old new : SessionState) (input : List ℕ) (turns : List SessionTurn) (rest : List ℕ)
+    → AreLinkedTurns (session_of alone_reach uploads) old input turns new rest → Run old.store (session_calls turns) (session_replies turns) new.store

@@ -3,9 +3,9 @@
 ghost use Rattle.std.specs.Prelude.{◌≡◌, ◌<◌, IfErr, IfOk, OnErr, OnOk};
 ghost use Rattle.std.specs.Io.KnownBytes.{Appends};
 ghost use Rattle.edge.specs.Output.{WroteSome};
-ghost use Rattle.store_lines.specs.inner.Answers.{Answered, AnswersRead, PutsRead, is_good, reported_ending, reported_text};
+ghost use Rattle.store_lines.specs.inner.Answers.{Answered, AnswersRead, IsTurnOf, PutsRead, is_good, reported_ending, reported_text};
 ghost use Rattle.store_lines.specs.Lines.{IsPutLine};
-ghost use Rattle.store_lines.specs.Script.{IsTurnOf, fault_ending, reply_ending};
+ghost use Rattle.store_lines.specs.Script.{fault_ending, reply_ending};
 ghost use Rattle.std.specs.Io.BufRead.{strip_last};
 
 use crate::ending::Ending;
@@ -131,7 +131,7 @@ fn answer_line(
     line: &[u8],
     work: &mut Work,
 ) -> Result<Answer, AllocError>
-    ensures answered { IfOk result (λ answer. Answered (λ turn. IsTurnOf store.old line.now turn store.new) (reported_text store.new.journal answer) (reported_ending answer)) }
+    ensures answered { IfOk result (λ answer. Answered (IsTurnOf store.old line.now store.new) (reported_text store.new.journal answer) (reported_ending answer)) }
     ensures unchanged { OnErr result (store.new ≡ store.old) }
     ensures memory { OnErr result (IsPutLine line.now) }
 {

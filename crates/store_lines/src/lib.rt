@@ -20,13 +20,13 @@
 //! `serve_over` does the same over a store that a session accesses through an `Access`, and that others may change between two of its
 //! calls: each call is one step of the model. A `Store` is such an access, and `serve` is `serve_over` on one.
 //!
-//! Contracts describe a script by `specs/Script.antt`: the turn of each line, in order, from the empty store, and that the steps among
-//! these are a run of the store. `script_laws` states that a line is read as a command if and only if it spells that command
-//! (`specs/Spelling.antt`).
+//! Contracts describe a session by `specs/Turns.antt`: the turn of each line, and what it leaves of the input. The state that a step finds
+//! is linked to the one that the step before left (`specs/Access.antt`); in a store of its own, it is the same. `session_laws` states that
+//! how an input splits depends only on the input, and that the steps in a store of its own are a run of it.
 //!
-//! They describe a session by `specs/Session.antt`: the turn of each line and what it leaves of the input, from the empty store.
-//! `session_laws` states that the latter depends only on the input. `specs/Turns.antt` says the same over an `Access`: the state that a
-//! step finds is linked to the one that the step before left (`specs/Access.antt`).
+//! They describe a script by `specs/Running.antt`: the turn of each line, in order, in a store of its own that begins empty, and that the
+//! steps among these are a run of it. `script_laws` states that a line is read as a command if and only if it spells that command
+//! (`specs/Spelling.antt`).
 //!
 //! At its end a session aborts the uploads that it began and hasn't ended, in the order of their begins, unless its caller keeps them
 //! (`specs/Owning.antt`). A number is used once, so such an abort never meets another upload. There is room for a number before its `begin`

@@ -5,7 +5,8 @@ ghost use Rattle.std.specs.Io.BufRead.{DropsThrough, take_through};
 ghost use Rattle.std.specs.Io.KnownBytes.{Appends, IsAtEnd};
 ghost use Rattle.edge.specs.Output.{WroteSome};
 ghost use Rattle.store_lines.specs.inner.Answers.{IsReadLine, reported_ending, reported_text};
-ghost use Rattle.store_lines.specs.Script.{Ran, RanCut, RanOut, RanSome, verdict_ending, widest_start, worse};
+ghost use Rattle.store_lines.specs.Running.{Ran, RanCut, RanOut, RanSome};
+ghost use Rattle.store_lines.specs.Script.{verdict_ending, widest_start, worse};
 ghost use Rattle.store_lines.specs.inner.Script.{ended_as, first_cause};
 ghost use Rattle.store_lines.specs.declared.ending.Ending.TheVariants as endings;
 

@@ -6,8 +6,10 @@ ghost use Rattle.std.specs.Io.KnownBytes.{Appends, IsAtEnd};
 ghost use Rattle.edge.specs.Output.{WroteSome};
 ghost use Rattle.store_lines.specs.Lines.{max_request};
 ghost use Rattle.store_lines.specs.inner.Requests.{IsSessionLine};
-ghost use Rattle.store_lines.specs.Session.{ServedAll, ServedCut, ServedSome};
-ghost use Rattle.store_lines.specs.Owning.{session_of};
+ghost use Rattle.store_core.specs.Carried.{IsCarried};
+ghost use Rattle.store_lines.specs.Access.{alone_stands};
+ghost use Rattle.store_lines.specs.Owning.{alone, session_of};
+ghost use Rattle.store_lines.specs.Script.{widest_start};
 ghost use Rattle.store_lines.specs.Turns.{Finishes, ServedAllOver, ServedCutOver, ServedSomeOver};
 ghost use Rattle.store_lines.specs.inner.Reporting.{LeavesLineOver, LeavesOver, Notes, Owns, ServesLineOver, ServesRequestOver};
 
@@ -38,19 +40,26 @@ pub fn serve<R: BufRead, W: Write>(
     writer: &mut W,
     work: &mut Work,
 ) -> Result<Verdict, Cause>
-    // The writer grew by the answers to all lines, except for one whose bytes are truncated by the end of the input.
-    ensures written { IfOk result (λ verdict. IfSome (R.Read.remaining reader.old) (λ input. ServedAll input (W.contents writer.old) (W.contents writer.new) verdict)) }
+    // The writer grew by the answers to all lines, from the empty store, except for one whose bytes are truncated by the end of the input.
+    // The store is lawful in the end.
+    ensures written { IfOk result (λ verdict. IfSome (R.Read.remaining reader.old) (λ input. ServedAllOver alone (alone_stands widest_start)
+        (Finishes alone (λ last. IsCarried last.store)) input (W.contents writer.old) (W.contents writer.new) verdict)) }
     ensures end { OnOk result (IfSome (R.Read.remaining reader.old) (λ _. IsAtEnd (R.Read.remaining reader.new))) }
     // After a failed read it grew by the answers to a prefix of the lines.
-    ensures read { result ≡ Err Cause.CannotRead → IfSome (R.Read.remaining reader.old) (λ input. ServedSome input (W.contents writer.old) (W.contents writer.new)) }
+    ensures read { result ≡ Err Cause.CannotRead → IfSome (R.Read.remaining reader.old) (λ input. ServedSomeOver alone (alone_stands widest_start)
+        (Finishes alone (λ last. IsCarried last.store)) input (W.contents writer.old) (W.contents writer.new)) }
     // After a failed write it grew by a prefix of such answers, the last of which was being written.
-    ensures failed { result ≡ Err Cause.CannotWrite → IfSome (R.Read.remaining reader.old) (λ input. ServedCut input (W.contents writer.old) (W.contents writer.new)) }
+    ensures failed { result ≡ Err Cause.CannotWrite → IfSome (R.Read.remaining reader.old) (λ input. ServedCutOver alone (alone_stands widest_start)
+        (Finishes alone (λ last. IsCarried last.store)) input (W.contents writer.old) (W.contents writer.new)) }
     // Running out of memory stops no session that has begun.
     ensures memory { result ≡ Err Cause.OutOfMemory → (reader.new ≡ reader.old) × (writer.new ≡ writer.old) }
 {
     let mut store = Store::new(alloc, Limits::full());
     let at_end = UploadsAtEnd::Kept;
-    serve_over(alloc, &mut store, at_end, reader, writer, work)
+    let ended = serve_over(alloc, &mut store, at_end, reader, writer, work);
+    // For the proof alone: the store is lawful.
+    let _lawful = store.journal();
+    ended
 }
 
 /// Runs a session over any access to a store: reads it line by line, with the bytes after a line, and writes the answer when these were

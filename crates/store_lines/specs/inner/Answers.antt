@@ -5,9 +5,11 @@ use Rattle.std.specs.Io.Iter.{u64_saturate}
 use Rattle.store_core.specs.Model.{ModelStore}
 use Rattle.store_journal.specs.declared.entry.Entry.{Entry}
 use Rattle.store_lines.specs.Lines.{IsPutLine}
-use Rattle.store_lines.specs.Script.{IsTurnOf, Turn, fault_ending, range_entries, reply_ending, turn_ending, turn_text}
+use Rattle.store_lines.specs.Access.{SessionState, alone_reach, alone_stands}
+use Rattle.store_lines.specs.Script.{Turn, fault_ending, range_entries, reply_ending, turn_ending, turn_text}
 use Rattle.store_lines.specs.Texts.{entries_text, refused_text, unmade_text}
 use Rattle.store_lines.specs.Questions.{answer_text}
+use Rattle.store_lines.specs.Turns.{IsLinkedLine}
 use Rattle.store_lines.specs.declared.answer.Answer.{Answer}
 use Rattle.store_lines.specs.declared.answer.Answer.TheVariants as answers
 use Rattle.store_lines.specs.declared.ending.Ending.{Ending}
@@ -41,13 +43,17 @@ pub record Answered (Is : Turn → Type 0) (text : List ℕ) (ending : Ending) :
   pub text_is : text ≡ turn_text turn
   pub ending_is : ending ≡ turn_ending turn
 
+-- the turn of a line in a store that nobody else changes
+abbrev pub IsTurnOf : ModelStore → List ℕ → ModelStore → Turn → Type 0
+IsTurnOf old line new turn = (before : SessionState) → alone_stands old before → (after : SessionState) × (alone_stands new after × IsLinkedLine alone_reach before line turn after)
+
 -- the line has `count` bytes, with its newline, and these of them are kept
 abbrev pub IsReadLine : List ℕ → ℕ → List ℕ → Type 0
 IsReadLine whole count kept = (count ≡ u64_saturate (length whole)) × (kept ≡ take 33554481 whole)
 
 -- the answer to the line that was read
 pub record AnswersRead (old new : ModelStore) (count : ℕ) (kept text : List ℕ) (ending : Ending) : Type 0 where
-  pub answers : (whole : List ℕ) → IsReadLine whole count kept → Answered (λ turn. IsTurnOf old (strip_last 10 whole) turn new) text ending
+  pub answers : (whole : List ℕ) → IsReadLine whole count kept → Answered (IsTurnOf old (strip_last 10 whole) new) text ending
 
 -- the line that was read starts so
 pub record PutsRead (count : ℕ) (kept : List ℕ) : Type 0 where

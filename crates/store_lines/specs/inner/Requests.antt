@@ -1,14 +1,13 @@
 -- Definitions for private functions, in addition to specs/Requests.
-use Rattle.std.specs.Prelude.{◌≡◌, ◌<◌, ◌⊎◌, ℕ, List, Some, None, Option, length}
+use Rattle.std.specs.Prelude.{◌≡◌, ◌<◌, ◌≤◌, ◌⊎◌, ℕ, List, Some, None, Option, length}
 use Rattle.std.specs.Io.BufRead.{strip_last}
 use Rattle.edge.specs.Lines.{IsLineRead}
 use Rattle.edge.specs.declared.lines.LineRead.{LineRead}
 use Rattle.store_lines.specs.declared.request.Request.{Request}
 use Rattle.store_lines.specs.declared.request.Request.TheVariants.{File, PutRaw}
-use Rattle.store_lines.specs.Lines.{max_request}
+use Rattle.store_lines.specs.Lines.{IsPutLine, max_request}
 use Rattle.store_lines.specs.Grammar.{command_at}
 use Rattle.store_lines.specs.Requests.{request_in}
-use Rattle.store_lines.specs.Session.{MayTakeMemory}
 use Rattle.store_lines.specs.declared.session_line.Line.{Line}
 use Rattle.store_lines.specs.declared.session_line.Line.TheVariants as lines
 
@@ -19,6 +18,10 @@ IsSessionLine whole read kept = IsLineRead 33554481 max_request whole read kept
 -- it is the request of the line that was read
 pub record AsksFor (read : LineRead) (kept : List ℕ) (request : Option Request) : Type 0 where
   pub asks : (whole : List ℕ) → IsSessionLine whole read kept → request ≡ request_in whole
+
+-- reading a line of a script may allocate: if it is long, or puts a part
+abbrev pub MayTakeMemory : List ℕ → Type 0
+MayTakeMemory line = (max_request ≤ length line) ⊎ IsPutLine line
 
 -- a line of a script, without its newline, is that
 abbrev pub IsLineOf : List ℕ → Line → Type 0

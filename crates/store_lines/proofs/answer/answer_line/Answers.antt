@@ -1,7 +1,7 @@
 use Rattle.std.proofs.Common.{rules, ◌≡◌, ◌<◌, Some, length, refl}
 use Rattle.store_lines.specs.Grammar.{command_at}
 use Rattle.store_lines.specs.declared.request.Request.TheVariants.{Asks, Does, Entries, Put}
-use Rattle.store_lines.proofs.LineOutcomes.{asked, done, listed_these, nothing, put_alone, put_asked}
+use Rattle.store_lines.proofs.LineOutcomes.{asked, done, listed_these, nothing, put_asked}
 use Rattle.store_lines.proofs.answer.answer_line.Goals as goal
 
 pub returns-then-is_empty-clause-answered : goal.returns-then-is_empty-clause-answered
@@ -30,5 +30,4 @@ returns-in-Some-Put-clause-answered c =
     let part = c.in-Some-Put.part in
     let some : 0 < length c.args.line.now = search rules in
     let is : Some (Put part) ≡ command_at c.args.line.now = search rules in
-    let put = put_alone c.args.store.now c.put_bytes.new.access part.upload part.offset part.bytes c.put_bytes.result c.put_bytes.ensures in
-    put_asked c.args.store.now c.put_bytes.new.access c.args.line.now _ _ part some is put
+    put_asked c.args.store.now c.put_bytes.new.access c.args.line.now part c.put_bytes.result some is c.put_bytes.ensures
