@@ -2,11 +2,10 @@
 
 use crate::standard::StandardError;
 use b3_check::{NameFault, Names, NumberedLine};
-use std::cell::Cell;
-use std::io::{BufRead, Read, Write};
+use std::fmt;
 use std::sync::atomic::{AtomicU64, Ordering};
-use std::{fmt, io};
 use store_command_line::Input;
+use store_lines::{BadLines, LineFault};
 
 // The maximum number of lines that are explained.
 const MAX_EXPLAINED: u64 = 10;
@@ -113,136 +112,11 @@ impl<N: Names + Drop> Names for ExplainedNames<'_, N> {
     }
 }
 
-// The number of bytes of a line that are kept: more than those of the longest word.
-const KEPT: usize = 8;
+/// Each line of a script that is outside the grammar is explained.
+impl BadLines for Refusals<'_> {
+    ghost tells = { λ old number fault new. Unit {0} };
 
-// The words of lines that scripts have.
-const WORDS: [&[u8]; 15] = [
-    b"abort", b"begin", b"fetch", b"fix", b"forget", b"journal", b"limit", b"list", b"open",
-    b"put", b"seal", b"sealas", b"stat", b"tenant", b"usage",
-];
-
-/// The last line that was read of a script: its number, counted from 1, and its first bytes.
-#[derive(Drop)]
-pub(crate) struct LastLine {
-    number: Cell<u64>,
-    front: Cell<[u8; KEPT]>,
-    len: Cell<usize>,
-    is_whole: Cell<bool>,
-}
-
-impl LastLine {
-    /// No line was read.
-    pub(crate) fn new() -> LastLine {
-        LastLine {
-            number: Cell::new(0),
-            front: Cell::new([0; KEPT]),
-            len: Cell::new(0),
-            is_whole: Cell::new(true),
-        }
-    }
-
-    // Notes that these bytes follow.
-    fn note(&self, bytes: &[u8]) {
-        if bytes.is_empty() {
-            return;
-        }
-        if self.is_whole.get() {
-            self.number.set(self.number.get().saturating_add(1));
-            self.len.set(0);
-        }
-        let mut front = self.front.get();
-        let mut len = self.len.get();
-        for byte in bytes.iter().take(KEPT) {
-            if len < KEPT {
-                front[len] = *byte;
-                len += 1;
-            }
-        }
-        self.front.set(front);
-        self.len.set(len);
-        self.is_whole.set(bytes.last() == Some(&b'\n'));
-    }
-
-    // Why it is no line of a script.
-    fn fault(&self) -> &'static str {
-        let front = self.front.get();
-        let kept = front.get(..self.len.get()).unwrap_or(&front);
-        let word = kept.split(|byte| *byte == b' ' || *byte == b'\n').next();
-        match word {
-            Some(word) if WORDS.contains(&word) => "a field is missing, wrong or extra",
-            _ => "unknown command",
-        }
-    }
-}
-
-/// The lines of a script, of which the last one that was read is noted.
-#[derive(Drop)]
-pub(crate) struct NotedLines<'a, R> {
-    last: &'a LastLine,
-    within: R,
-}
-
-impl<'a, R> NotedLines<'a, R> {
-    pub(crate) fn new(last: &'a LastLine, within: R) -> NotedLines<'a, R> {
-        NotedLines { last, within }
-    }
-}
-
-impl<R: Read> Read for NotedLines<'_, R> {
-    fn read(&mut self, buf: &mut [u8]) -> io::Result<usize> {
-        self.within.read(buf)
-    }
-}
-
-impl<R: BufRead> BufRead for NotedLines<'_, R> {
-    fn fill_buf(&mut self) -> io::Result<&[u8]> {
-        self.within.fill_buf()
-    }
-
-    fn consume(&mut self, amount: usize) {
-        // The bytes are there already; at the end of the input this would read again.
-        if amount > 0 {
-            if let Ok(found) = self.within.fill_buf() {
-                self.last.note(found.get(..amount).unwrap_or(found));
-            }
-        }
-        self.within.consume(amount);
-    }
-}
-
-/// The answers of a script. Each `bad` is explained.
-#[derive(Drop)]
-pub(crate) struct ExplainedAnswers<'a, W> {
-    refusals: &'a Refusals<'a>,
-    last: &'a LastLine,
-    within: W,
-}
-
-impl<'a, W> ExplainedAnswers<'a, W> {
-    pub(crate) fn new(
-        refusals: &'a Refusals<'a>,
-        last: &'a LastLine,
-        within: W,
-    ) -> ExplainedAnswers<'a, W> {
-        ExplainedAnswers {
-            refusals,
-            last,
-            within,
-        }
-    }
-}
-
-impl<W: Write> Write for ExplainedAnswers<'_, W> {
-    fn write(&mut self, buf: &[u8]) -> io::Result<usize> {
-        if buf == b"bad\n".as_slice() {
-            let (number, fault) = (self.last.number.get(), self.last.fault());
-            self.refusals.explain("line", number, &fault);
-        }
-        self.within.write(buf)
-    }
-
-    fn flush(&mut self) -> io::Result<()> {
-        self.within.flush()
+    fn tell(&mut self, number: u64, fault: LineFault) {
+        self.explain("line", number, &fault);
     }
 }

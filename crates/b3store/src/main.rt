@@ -15,7 +15,7 @@ mod standard;
 mod words;
 
 use b3_core::{Runtime, Work};
-use explaining::{ExplainedAnswers, LastLine, NotedLines, Refusals};
+use explaining::Refusals;
 use extent::Extent;
 use inputs::{check_status, sum_status};
 use progress::with_progress;
@@ -37,17 +37,21 @@ use words::{Words, not_text};
 // Answers a script.
 fn run_script(errors: StandardError<'_>) -> Result<Verdict, Cause> {
     let rt = errors.runtime();
-    let Ok(lines) = BufReader::new(rt.alloc(), rt.stdin()) else {
+    let Ok(mut lines) = BufReader::new(rt.alloc(), rt.stdin()) else {
         return Err(Cause::OutOfMemory);
     };
-    let Ok(answers) = BufWriter::new(rt.alloc(), standard_output(rt)) else {
+    let Ok(mut answers) = BufWriter::new(rt.alloc(), standard_output(rt)) else {
         return Err(Cause::OutOfMemory);
     };
-    let (refusals, last) = (Refusals::new(errors, Input::Standard), LastLine::new());
-    let mut lines = NotedLines::new(&last, lines);
-    let mut answers = ExplainedAnswers::new(&refusals, &last, answers);
+    let mut refusals = Refusals::new(errors, Input::Standard);
     let mut work = Work::new(rt);
-    let ended = run(rt.alloc(), &mut lines, &mut answers, &mut work);
+    let ended = run(
+        rt.alloc(),
+        &mut lines,
+        &mut answers,
+        &mut refusals,
+        &mut work,
+    );
     refusals.finish();
     ended
 }

@@ -5,7 +5,7 @@ use crate::fakes::FixedWriter;
 use b3_core::{Runtime, Work};
 use std::process::Abort;
 use store_engines::{Cause, Verdict};
-use store_lines::run;
+use store_lines::{Untold, run};
 
 // Two tenants that hold one object.
 const SHARED: &[u8] =
@@ -61,7 +61,7 @@ fn is_answered<R: AllocGlobal + Runtime + Abort>(rt: &R) -> bool {
         len: 0,
     };
     let mut work = Work::new(rt);
-    let found = run(rt.alloc(), &mut reader, &mut writer, &mut work);
+    let found = run(rt.alloc(), &mut reader, &mut writer, &mut Untold, &mut work);
     match found {
         Ok(Verdict::Good) => assert!(rt; writer.ends_with(0, SHARED_ANSWERS)),
         Err(Cause::OutOfMemory) => assert!(rt; is_refused_once(&writer)),

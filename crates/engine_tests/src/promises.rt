@@ -7,23 +7,28 @@ ghost use Rattle.store_engines.specs.Migrations.{migrate_text};
 ghost use Rattle.store_core.specs.Carried.{IsCarried};
 ghost use Rattle.store_lines.specs.Access.{alone_stands};
 ghost use Rattle.store_lines.specs.Owning.{alone};
-ghost use Rattle.store_lines.specs.Running.{Ran};
+ghost use Rattle.store_lines.specs.Running.{AreTold, Ran};
 ghost use Rattle.store_lines.specs.Script.{verdict_ending, widest_start};
 ghost use Rattle.store_lines.specs.Turns.{Finishes, ServedAllOver};
 
 use b3_core::Work;
 use std::alloc::Global;
 use store_engines::{Cause, JournalFault, Verdict, audit, migrate};
-use store_lines::{run, serve};
+use store_lines::{BadLines, Untold, run, serve};
 
 // What is written, and how it ended.
 type Written<E> = (Vec<u8>, Result<E, Cause>);
 
-fn ran(alloc: Global, script: &[u8], work: &mut Work) -> Written<Verdict>
-    ensures { IfOk result.1 (λ verdict. Ran script.now (Some []) (Some result.0.items) (verdict_ending verdict)) }
+fn ran<F: BadLines>(
+    alloc: Global,
+    script: &[u8],
+    faults: &mut F,
+    work: &mut Work,
+) -> Written<Verdict>
+    ensures { IfOk result.1 (λ verdict. Ran script.now (AreTold F.tells faults.old faults.new) (Some []) (Some result.0.items) (verdict_ending verdict)) }
 {
     let (mut reader, mut writer) = (script, Vec::new(alloc));
-    let ended = run(alloc, &mut reader, &mut writer, work);
+    let ended = run(alloc, &mut reader, &mut writer, faults, work);
     (writer, ended)
 }
 
@@ -68,7 +73,7 @@ fn engines_answer_bytes_in_memory(rt: HostRuntime) {
     let alloc = rt.alloc();
     let mut work = Work::new(&rt);
     let is_run = is_good(
-        ran(alloc, b"tenant 5\nusage 0\n", &mut work),
+        ran(alloc, b"tenant 5\nusage 0\n", &mut Untold, &mut work),
         b"tenant 0\nused 0 reserved 0 limit 5\n",
     );
     let is_served = is_good(

@@ -10,7 +10,7 @@ use std::io::BufReader;
 use std::sync::Wait;
 use std::thread::Threads;
 use store_engines::{JournalFault, UploadOptions, audit, migrate};
-use store_lines::{run, serve};
+use store_lines::{Untold, run, serve};
 
 #[derive(Clone, Copy, PartialEq, Eq)]
 enum Engine {
@@ -118,7 +118,7 @@ fn answers<R: AllocGlobal + Runtime>(
     if is_session {
         serve(rt.alloc(), &mut lines, writer, &mut work)
     } else {
-        run(rt.alloc(), &mut lines, writer, &mut work)
+        run(rt.alloc(), &mut lines, writer, &mut Untold, &mut work)
     }
 }
 

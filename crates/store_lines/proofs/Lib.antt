@@ -4,6 +4,7 @@ pub mod Patterns
 pub mod Read
 pub mod Rows
 pub mod LineOutcomes
+mod Told
 pub mod Lengths
 mod Frames
 mod Ranges

@@ -15,13 +15,16 @@ use Rattle.store_core.specs.Runs.{Call, Step, ask, change}
 use Rattle.store_lines.specs.Grammar.{command_at}
 use Rattle.store_lines.specs.declared.request.EntryRange.{EntryRange}
 use Rattle.store_lines.specs.declared.request.Part.{Part}
+use Rattle.store_lines.specs.declared.request.Request.{Request}
 use Rattle.store_lines.specs.declared.request.Request.TheVariants.{Asks, Does, Entries, Put}
 use Rattle.store_lines.specs.Access.{SessionState, advance, alone_reach, alone_stands, at}
 use Rattle.store_lines.specs.Lines.{IsPutLine}
-use Rattle.store_lines.specs.inner.Answers.{Answered, AnswersRead, IsTurnOf, PutsRead, reported_ending, reported_text}
+use Rattle.store_lines.specs.inner.Answers.{Answered, AnswersRead, AnswersRequest, IsTurnOf, PutsRead, reported_ending, reported_text}
 use Rattle.store_lines.specs.Turns.{IsLinkedPut, IsLinkedStep}
 use Rattle.store_lines.specs.inner.Reporting.{AnsweredOver}
+use Rattle.store_lines.proofs.Read.{found}
 use Rattle.store_lines.proofs.Reports.{plays}
+use Rattle.store_lines.specs.Spelling.{IsSpelled}
 use Rattle.store_lines.proofs.Lengths.{long_is_none}
 use Rattle.store_lines.specs.Script.{bad, listed, range_entries, reply_ending, skipped, took}
 use Rattle.store_lines.specs.Texts.{entries_text}
@@ -90,6 +93,29 @@ put_asked old new line part answer some spelled h = record {
   text_is = h.text_is new.journal;
   ending_is = h.ending_is;
 }
+
+-- ---- a request
+
+pub request_done : (old new : ModelStore) (request : Request) (command : Command) (reply : Result Reply Refusal) (text : List ℕ) (ending : Ending) → request ≡ Does command → Step old (change command) reply new → Says reply text ending → AnswersRequest old new request text ending
+request_done old new request command reply text ending same step says =
+    subst (λ (r : Request). AnswersRequest old new r text ending) (sym same) (record { answers = λ line some is. done old new line text ending command reply some is step says })
+
+pub request_asked : (old : ModelStore) (request : Request) (question : Question) (reply : Result Reply Refusal) (text : List ℕ) (ending : Ending) → request ≡ Asks question → Answers old question reply → Says reply text ending → AnswersRequest old old request text ending
+request_asked old request question reply text ending same answers says =
+    subst (λ (r : Request). AnswersRequest old old r text ending) (sym same) (record { answers = λ line some is. asked old line text ending question reply some is answers says })
+
+pub request_listed : (old : ModelStore) (request : Request) (range : EntryRange) → request ≡ Entries range → AnswersRequest old old request (entries_text (range_entries range old.journal)) endings.Good
+request_listed old request range same =
+    subst (λ (r : Request). AnswersRequest old old r (entries_text (range_entries range old.journal)) endings.Good) (sym same) (record { answers = λ line some is. listed_these old line range some is })
+
+pub request_put : (old new : ModelStore) (request : Request) (part : Part) (answer : Answer) → request ≡ Put part → AnsweredOver (alone_stands old) (alone_stands new) (λ before turn after. IsLinkedPut alone_reach before part.upload part.offset part.bytes turn after) answer
+    → AnswersRequest old new request (reported_text new.journal answer) (reported_ending answer)
+request_put old new request part answer same h =
+    subst (λ (r : Request). AnswersRequest old new r (reported_text new.journal answer) (reported_ending answer)) (sym same) (record { answers = λ line some is. put_asked old new line part answer some is h })
+
+-- no line of a script has another
+pub request_raw : (old : ModelStore) (request : Request) (text : List ℕ) (ending : Ending) → ((line : List ℕ) → IsSpelled line request → ⊥) → AnswersRequest old old request text ending
+request_raw old request text ending none = record { answers = λ line some is. absurd (none line (found line request (sym is))) }
 
 -- ---- a line that was read
 

@@ -11,7 +11,8 @@ use Rattle.store_core.specs.declared.command.Command.TheVariants as commands
 use Rattle.store_core.specs.declared.store.questions.Question.TheVariants as questions
 use Rattle.store_core.specs.Runs.{ask}
 use Rattle.store_core.specs.declared.store.questions.Reply.TheVariants as replies
-use Rattle.store_lines.specs.Grammar.{address_of_digits, script_request_of_kind, bytes_of_kind, command_at, pattern_of, split_line_at}
+use Rattle.store_lines.specs.Grammar.{address_of_digits, script_request_of_kind, bytes_of_kind, command_at, fault_at, pattern_of, split_line_at, word_fault}
+use Rattle.store_lines.specs.declared.bad_lines.LineFault.TheVariants.{BadFields, UnknownCommand}
 use Rattle.store_lines.specs.declared.request.Request.{Request}
 use Rattle.store_lines.specs.declared.request.Request.TheVariants.{Asks, Does, Put}
 use Rattle.store_lines.specs.Script.{bad, ending_of, skipped, took, turn_text, unmade}
@@ -19,7 +20,7 @@ use Rattle.store_lines.specs.Questions.{answer_text}
 use Rattle.store_lines.specs.declared.ending.Ending.TheVariants as endings
 
 unfoldable on_literals : ⊤
-unfolding hex_on_literals digits lines_of address_of_digits script_request_of_kind bytes_of_kind split_line_at pattern_of
+unfolding hex_on_literals digits lines_of address_of_digits script_request_of_kind bytes_of_kind split_line_at pattern_of word_fault
 on_literals = tt
 
 -- ---- lines
@@ -112,6 +113,22 @@ long_pattern = refl
 short_address : command_at (codes "forget 0 00") ≡ none
 unfolding on_literals
 short_address = refl
+
+unknown_word : fault_at (codes "putb 0 0 5") ≡ Some UnknownCommand
+unfolding on_literals
+unknown_word = refl
+
+word_alone : fault_at (codes "tenant") ≡ Some BadFields
+unfolding on_literals
+word_alone = refl
+
+field_too_many : fault_at (codes "stat 0") ≡ Some BadFields
+unfolding on_literals
+field_too_many = refl
+
+no_fault : fault_at (codes "stat") ≡ None
+unfolding on_literals
+no_fault = refl
 
 -- ---- answers
 

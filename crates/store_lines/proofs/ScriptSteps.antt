@@ -1,5 +1,5 @@
 -- How far a script has come.
-use Rattle.std.proofs.Common.{◌≡◌, ◌∙◌, ◌<◌, ◌^◌, ℕ, Bool, true, false, List, [], ◌∷◌, ◌++◌, Some, None, Ok, Err, Result, refl, ap, sym, subst, arith, length, cond, append_assoc, ◌⊎◌, inl, inr}
+use Rattle.std.proofs.Common.{◌≡◌, ◌∙◌, ◌+◌, ◌<◌, ◌^◌, ℕ, Bool, true, false, List, [], ◌∷◌, ◌++◌, Some, None, Ok, Err, Result, refl, ap, sym, subst, arith, length, length-append, cond, append_assoc, ◌⊎◌, inl, inr}
 use Rattle.std.specs.Prelude.{◌≢◌, Option, ◌==◌, IfOk, IfSome, OnOk}
 use Rattle.std.specs.List.{flat_map}
 use Rattle.std.specs.Io.BufRead.{DropsThrough, drop_through, strip_last, take_through}
@@ -20,14 +20,16 @@ use Rattle.edge.proofs.Joining.{appends_more, appends_none}
 use Rattle.edge.proofs.Output.{some_after}
 use Rattle.store_core.specs.Model.{ModelStore, start}
 use Rattle.store_core.specs.Runs.{Call, Run, Step, ask, change, put}
-use Rattle.store_lines.specs.Grammar.{command_at}
+use Rattle.store_lines.specs.Grammar.{command_at, fault_at}
 use Rattle.store_lines.specs.declared.request.Request.{Request}
 use Rattle.store_lines.specs.declared.request.EntryRange.{EntryRange}
 use Rattle.store_lines.specs.declared.request.Request.TheVariants.{Asks, Does, Entries, Put}
 use Rattle.store_lines.specs.inner.Answers.{AnswersRead, IsReadLine}
 use Rattle.store_lines.specs.Access.{SessionState, alone_reach, alone_stands, at, newly}
 use Rattle.store_lines.specs.Turns.{IsLinkedCommand, IsLinkedLine, IsLinkedListing, IsLinkedMade, IsLinkedPart, IsLinkedPlan, IsLinkedPut, IsLinkedStep}
-use Rattle.store_lines.specs.Running.{AreAnswered, AreTurnsOf, IsScriptBegun, Ran, RanCut, RanOut, RanSome, failed_write, ran_all, ran_some}
+use Rattle.store_lines.specs.Running.{AreAnswered, AreTurnsOf, IsScriptBegun, Ran, RanCut, RanOut, RanSome, failed_write, ran_all, ran_some, told_from, told_of}
+use Rattle.store_lines.specs.declared.bad_lines.LineFault.{LineFault}
+use Rattle.store_lines.proofs.Told.{told_more}
 use Rattle.store_lines.specs.Script.{IsTurnOfStep, Turn, bad, calls_of, ending_of, listed, replies_of, skipped, took, turn_ending, turn_text, unmade, unplanned, verdict_ending, widest_start, worse}
 use Rattle.store_lines.specs.inner.Script.{ended_as, first_cause}
 use Rattle.store_lines.specs.declared.ending.Ending.{Ending}
@@ -142,7 +144,7 @@ runs old new (line ∷ lines) (turn ∷ turns) h = run_on old.store h.0.store ne
 -- ---- a run under way
 
 -- the lines before the rest were answered: what they came to, what was written, and the ending so far
-pub record IsUnder (now was is : Option (List ℕ)) (store : ModelStore) (ending : Ending) (input : List ℕ) : Type 0 where
+pub record IsUnder (Told : List (ℕ × LineFault) → Type 0) (number : ℕ) (now was is : Option (List ℕ)) (store : ModelStore) (ending : Ending) (input : List ℕ) : Type 0 where
   pub rest : List ℕ
   pub left : now ≡ Some rest
   pub front : List (List ℕ)
@@ -153,10 +155,12 @@ pub record IsUnder (now was is : Option (List ℕ)) (store : ModelStore) (ending
   pub plays : AreTurnsOf (newly widest_start) front turns end
   pub wrote : Appends was is (flat_map turn_text turns)
   pub ending_is : ending ≡ ending_of turns
+  pub count : number ≡ length front
+  pub told : Told (told_from 1 front)
 
-pub begun : (old was : Option (List ℕ)) (store : ModelStore) → store ≡ widest_start → IfSome old (IsUnder old was was store endings.Good)
-begun None was store is = tt
-begun (Some input) was store is = record {
+pub begun : (Told : List (ℕ × LineFault) → Type 0) (old was : Option (List ℕ)) (store : ModelStore) → store ≡ widest_start → Told [] → IfSome old (IsUnder Told 0 old was was store endings.Good)
+begun Told None was store is nothing = tt
+begun Told (Some input) was store is nothing = record {
   rest = input;
   left = refl;
   front = [];
@@ -167,10 +171,12 @@ begun (Some input) was store is = record {
   plays = refl;
   wrote = appends_none was;
   ending_is = refl;
+  count = refl;
+  told = nothing;
 }
 
-are_answered : (front : List (List ℕ)) (turns : List Turn) (end : SessionState) (ending : Ending) → AreTurnsOf (newly widest_start) front turns end → ending ≡ ending_of turns → AreAnswered front (flat_map turn_text turns) ending
-are_answered front turns end ending plays is =
+are_answered : (Told : List (ℕ × LineFault) → Type 0) (front : List (List ℕ)) (turns : List Turn) (end : SessionState) (ending : Ending) → AreTurnsOf (newly widest_start) front turns end → ending ≡ ending_of turns → Told (told_from 1 front) → AreAnswered front Told (flat_map turn_text turns) ending
+are_answered Told front turns end ending plays is told =
     let run = runs (newly widest_start) end front turns plays in
     record {
       turns = turns;
@@ -180,23 +186,24 @@ are_answered front turns end ending plays is =
       law = (runs_carry widest_start end.store (calls_of turns) (replies_of turns) (empty_carried max_tenants max_entries max_workers (omega arith) (omega arith)) run).0;
       text_is = refl;
       ending_is = is;
+      told = told;
     }
 
-pub at_end : (old now was is : Option (List ℕ)) (store : ModelStore) (ending : Ending) → IfSome old (IsUnder now was is store ending) → IsAtEnd now → IfSome old (λ input. Ran input was is ending)
-at_end None now was is store ending h e = tt
-at_end (Some input) now was is store ending h e =
+pub at_end : (Told : List (ℕ × LineFault) → Type 0) (number : ℕ) (old now was is : Option (List ℕ)) (store : ModelStore) (ending : Ending) → IfSome old (IsUnder Told number now was is store ending) → IsAtEnd now → IfSome old (λ input. Ran input Told was is ending)
+at_end Told number None now was is store ending h e = tt
+at_end Told number (Some input) now was is store ending h e =
     let none : IsAtEnd (Some h.rest) = subst IsAtEnd h.left e in
     let all : lines_of input ≡ h.front = h.lines ∙ ap (λ (rest : List ℕ). h.front ++ lines_of rest) none ∙ ap (λ ls. h.front ++ ls) none_left ∙ append-nil h.front in
     record {
       output = flat_map turn_text h.turns;
-      script = subst (λ (ls : List (List ℕ)). AreAnswered ls (flat_map turn_text h.turns) ending) (sym all) (are_answered h.front h.turns h.end ending h.plays h.ending_is);
+      script = subst (λ (ls : List (List ℕ)). AreAnswered ls Told (flat_map turn_text h.turns) ending) (sym all) (are_answered Told h.front h.turns h.end ending h.plays h.ending_is h.told);
       wrote = h.wrote;
     }
 
 -- at the end the reader stays there
-pub ended_reader : (old now then was is : Option (List ℕ)) (store : ModelStore) (ending : Ending) → IfSome old (IsUnder now was is store ending) → IsAtEnd now → DropsThrough now then 10 → IfSome old (λ _. IsAtEnd then)
-ended_reader None now then was is store ending h none drops = tt
-ended_reader (Some input) now then was is store ending h none drops =
+pub ended_reader : (Told : List (ℕ × LineFault) → Type 0) (number : ℕ) (old now then was is : Option (List ℕ)) (store : ModelStore) (ending : Ending) → IfSome old (IsUnder Told number now was is store ending) → IsAtEnd now → DropsThrough now then 10 → IfSome old (λ _. IsAtEnd then)
+ended_reader Told number None now then was is store ending h none drops = tt
+ended_reader Told number (Some input) now then was is store ending h none drops =
     let rest : then ≡ Some (drop_through 10 h.rest) = subst (λ (o : Option (List ℕ)). DropsThrough o then 10) h.left drops in
     let nothing : h.rest ≡ [] = subst IsAtEnd h.left none in
     subst IsAtEnd (sym rest) (ap (drop_through 10) nothing)
@@ -204,16 +211,16 @@ ended_reader (Some input) now then was is store ending h none drops =
 -- ---- a run that ends
 
 -- answered to its end: its verdict, or out of memory in an answer
-pub is_verdict : (old was is : Option (List ℕ)) (ending : Ending) → IfSome old (λ input. Ran input was is ending) → IfOk (ended_as ending) (λ verdict. IfSome old (λ input. Ran input was is (verdict_ending verdict)))
-is_verdict old was is endings.Good h = h
-is_verdict old was is endings.Refused h = h
-is_verdict old was is endings.OutOfMemory h = tt
+pub is_verdict : (Told : List (ℕ × LineFault) → Type 0) (old was is : Option (List ℕ)) (ending : Ending) → IfSome old (λ input. Ran input Told was is ending) → IfOk (ended_as ending) (λ verdict. IfSome old (λ input. Ran input Told was is (verdict_ending verdict)))
+is_verdict Told old was is endings.Good h = h
+is_verdict Told old was is endings.Refused h = h
+is_verdict Told old was is endings.OutOfMemory h = tt
 
-pub is_out : (old left was is : Option (List ℕ)) (ending : Ending) → IfSome old (λ _. IsAtEnd left) → IfSome old (λ input. Ran input was is ending) → ended_as ending ≡ Err causes.OutOfMemory → IfSome old (λ input. RanOut input left was is)
-is_out old left was is endings.Good end h e = absurd (cc)
-is_out old left was is endings.Refused end h e = absurd (cc)
-is_out None left was is endings.OutOfMemory end h e = tt
-is_out (Some input) left was is endings.OutOfMemory end h e = ran_all end h
+pub is_out : (Told : List (ℕ × LineFault) → Type 0) (old left was is : Option (List ℕ)) (ending : Ending) → IfSome old (λ _. IsAtEnd left) → IfSome old (λ input. Ran input Told was is ending) → ended_as ending ≡ Err causes.OutOfMemory → IfSome old (λ input. RanOut input Told left was is)
+is_out Told old left was is endings.Good end h e = absurd (cc)
+is_out Told old left was is endings.Refused end h e = absurd (cc)
+is_out Told None left was is endings.OutOfMemory end h e = tt
+is_out Told (Some input) left was is endings.OutOfMemory end h e = ran_all end h
 
 pub no_failed_read : (ending : Ending) → ended_as ending ≢ Err causes.CannotRead
 no_failed_read endings.Good = λ e. cc
@@ -226,24 +233,24 @@ if_ended endings.Refused Holds h = h
 if_ended endings.OutOfMemory Holds h = tt
 
 -- stopped after a prefix of its lines
-abbrev script_begun : (now was is : Option (List ℕ)) (store : ModelStore) (ending : Ending) (input : List ℕ) (h : IsUnder now was is store ending input) → IsScriptBegun input (flat_map turn_text h.turns) ending
-script_begun now was is store ending input h = record {
+abbrev script_begun : (Told : List (ℕ × LineFault) → Type 0) (number : ℕ) (now was is : Option (List ℕ)) (store : ModelStore) (ending : Ending) (input : List ℕ) (h : IsUnder Told number now was is store ending input) → IsScriptBegun input Told (flat_map turn_text h.turns) ending
+script_begun Told number now was is store ending input h = record {
   front = h.front;
   back = lines_of h.rest;
   lines = h.lines;
-  answered = are_answered h.front h.turns h.end ending h.plays h.ending_is;
+  answered = are_answered Told h.front h.turns h.end ending h.plays h.ending_is h.told;
 }
 
 -- a failed read is reported only where no answer before reported out of memory
 pub has_memory : (ending : Ending) (cause : Cause) → (ending ≡ endings.OutOfMemory → cause ≡ causes.OutOfMemory) → cause ≡ causes.CannotRead → ending ≢ endings.OutOfMemory
 has_memory ending cause reported is = λ memory. let other = reported memory in absurd (cc)
 
-pub at_stop : (old now was is : Option (List ℕ)) (store : ModelStore) (ending : Ending) → ending ≢ endings.OutOfMemory → IfSome old (IsUnder now was is store ending) → IfSome old (λ input. RanSome input was is)
-at_stop None now was is store ending memory h = tt
-at_stop (Some input) now was is store ending memory h = record {
+pub at_stop : (Told : List (ℕ × LineFault) → Type 0) (number : ℕ) (old now was is : Option (List ℕ)) (store : ModelStore) (ending : Ending) → ending ≢ endings.OutOfMemory → IfSome old (IsUnder Told number now was is store ending) → IfSome old (λ input. RanSome input Told was is)
+at_stop Told number None now was is store ending memory h = tt
+at_stop Told number (Some input) now was is store ending memory h = record {
   output = flat_map turn_text h.turns;
   ending = ending;
-  script = script_begun now was is store ending input h;
+  script = script_begun _ _ now was is store ending input h;
   has_memory = memory;
   wrote = h.wrote;
 }
@@ -252,11 +259,11 @@ some_left : (input : List ℕ) → 0 < length input → lines_of input ≢ []
 some_left input some = λ none. let nothing = ap length (nothing_is input none) in absurd (omega (arith, nothing, some))
 
 -- a line is left, or an answer reported out of memory
-pub at_refusal : (old now left was is : Option (List ℕ)) (store : ModelStore) (ending : Ending) → IfSome now (λ input. (0 < length input) ⊎ (ending ≡ endings.OutOfMemory)) → IfSome old (IsUnder now was is store ending) → IfSome old (λ input. RanOut input left was is)
-at_refusal None now left was is store ending some h = tt
-at_refusal (Some input) now left was is store ending some h =
+pub at_refusal : (Told : List (ℕ × LineFault) → Type 0) (number : ℕ) (old now left was is : Option (List ℕ)) (store : ModelStore) (ending : Ending) → IfSome now (λ input. (0 < length input) ⊎ (ending ≡ endings.OutOfMemory)) → IfSome old (IsUnder Told number now was is store ending) → IfSome old (λ input. RanOut input Told left was is)
+at_refusal Told number None now left was is store ending some h = tt
+at_refusal Told number (Some input) now left was is store ending some h =
     let rest = subst (λ (o : Option (List ℕ)). IfSome o (λ input. (0 < length input) ⊎ (ending ≡ endings.OutOfMemory))) h.left some in
-    ran_some (flat_map turn_text h.turns) ending (script_begun now was is store ending input h) (elim rest [ inl some ↦ inl (some_left h.rest some) | inr memory ↦ inr memory ]) h.wrote
+    ran_some (flat_map turn_text h.turns) ending (script_begun _ _ now was is store ending input h) (elim rest [ inl some ↦ inl (some_left h.rest some) | inr memory ↦ inr memory ]) h.wrote
 
 -- a line that was read is left
 pub line_left : (now : Option (List ℕ)) (ending : Ending) (count : ℕ) (kept : List ℕ) → 0 < count → IfSome now (λ xs. IsReadLine (take_through 10 xs) count kept) → IfSome now (λ input. (0 < length input) ⊎ (ending ≡ endings.OutOfMemory))
@@ -283,9 +290,9 @@ reported_left None ending memory = tt
 reported_left (Some input) ending memory = inr memory
 
 -- whatever was written
-whatever_written : (old now was is : Option (List ℕ)) (store : ModelStore) (ending : Ending) → IfSome old (IsUnder now was is store ending) → IfSome old (IsUnder now None None store ending)
-whatever_written None now was is store ending h = tt
-whatever_written (Some input) now was is store ending h = record {
+whatever_written : (Told : List (ℕ × LineFault) → Type 0) (number : ℕ) (old now was is : Option (List ℕ)) (store : ModelStore) (ending : Ending) → IfSome old (IsUnder Told number now was is store ending) → IfSome old (IsUnder Told number now None None store ending)
+whatever_written Told number None now was is store ending h = tt
+whatever_written Told number (Some input) now was is store ending h = record {
   rest = h.rest;
   left = h.left;
   front = h.front;
@@ -296,6 +303,8 @@ whatever_written (Some input) now was is store ending h = record {
   plays = h.plays;
   wrote = tt;
   ending_is = h.ending_is;
+  count = h.count;
+  told = h.told;
 }
 
 pub reported_memory : (ending : Ending) → first_cause ending causes.CannotWrite ≡ causes.OutOfMemory → ending ≡ endings.OutOfMemory
@@ -331,10 +340,10 @@ reported_memory_read endings.OutOfMemory e = refl
 
 -- ---- a line more of a run
 
-pub turned : (old now then was is after : Option (List ℕ)) (store next : ModelStore) (ending said : Ending) (count : ℕ) (kept text : List ℕ) → IfSome old (IsUnder now was is store ending) → IfSome now (λ xs. IsReadLine (take_through 10 xs) count kept)
-    → DropsThrough now then 10 → 0 < count → AnswersRead store next count kept text said → Appends is after text → IfSome old (IsUnder then was after next (worse ending said))
-turned None now then was is after store next ending said count kept text h read rest some answered wrote = tt
-turned (Some input) now then was is after store next ending said count kept text h read rest some answered wrote =
+pub turned : (Told Told2 : List (ℕ × LineFault) → Type 0) (number : ℕ) (old now then was is after : Option (List ℕ)) (store next : ModelStore) (ending said : Ending) (count : ℕ) (kept text : List ℕ) → IfSome old (IsUnder Told number now was is store ending) → IfSome now (λ xs. IsReadLine (take_through 10 xs) count kept)
+    → DropsThrough now then 10 → 0 < count → AnswersRead store next count kept text said → Appends is after text → ((whole : List ℕ) → IsReadLine whole count kept → (told : List (ℕ × LineFault)) → Told told → Told2 (told ++ told_of (number + 1) (fault_at (strip_last 10 whole)))) → IfSome old (IsUnder Told2 (number + 1) then was after next (worse ending said))
+turned Told Told2 number None now then was is after store next ending said count kept text h read rest some answered wrote say = tt
+turned Told Told2 number (Some input) now then was is after store next ending said count kept text h read rest some answered wrote say =
     let whole = take_through 10 h.rest in
     let read2 : IsReadLine whole count kept = subst (λ (o : Option (List ℕ)). IfSome o (λ xs. IsReadLine (take_through 10 xs) count kept)) h.left read in
     let rest2 : then ≡ Some (drop_through 10 h.rest) = subst (λ (o : Option (List ℕ)). DropsThrough o then 10) h.left rest in
@@ -352,39 +361,41 @@ turned (Some input) now then was is after store next ending said count kept text
       stands = goes.1.0;
       plays = more_play (newly widest_start) h.end goes.0 h.front h.turns line answer.turn h.plays goes.1.1;
       wrote = subst (λ (t : List ℕ). Appends was after t) (ap (λ t. flat_map turn_text h.turns ++ t) answer.text_is ∙ sym (text_more h.turns answer.turn)) (appends_more was is after (flat_map turn_text h.turns) text h.wrote wrote);
+      count = omega (arith, h.count, length-append h.front (line ∷ []));
+      told = subst Told2 (sym (told_more 1 h.front line (number + 1) (omega (arith, h.count)))) (say whole read2 (told_from 1 h.front) h.told);
       ending_is = ap (λ e. worse e said) h.ending_is ∙ ap (worse (ending_of h.turns)) answer.ending_is ∙ sym (ending_more h.turns answer.turn);
     }
 
 -- ---- a write that failed
 
 -- the answer to a line was cut off
-cut_off : (old now then was is after : Option (List ℕ)) (store next : ModelStore) (ending said : Ending) (count : ℕ) (kept text : List ℕ) → IfSome old (IsUnder now was is store ending) → IfSome now (λ xs. IsReadLine (take_through 10 xs) count kept)
-    → DropsThrough now then 10 → 0 < count → AnswersRead store next count kept text said → WroteSome is after text → IfSome old (λ input. (output : List ℕ) × IsScriptBegun input output (worse ending said) × WroteSome was after output)
+cut_off : (Told Told2 : List (ℕ × LineFault) → Type 0) (number : ℕ) (old now then was is after : Option (List ℕ)) (store next : ModelStore) (ending said : Ending) (count : ℕ) (kept text : List ℕ) → IfSome old (IsUnder Told number now was is store ending) → IfSome now (λ xs. IsReadLine (take_through 10 xs) count kept)
+    → DropsThrough now then 10 → 0 < count → AnswersRead store next count kept text said → WroteSome is after text → ((whole : List ℕ) → IsReadLine whole count kept → (told : List (ℕ × LineFault)) → Told told → Told2 (told ++ told_of (number + 1) (fault_at (strip_last 10 whole)))) → IfSome old (λ input. (output : List ℕ) × IsScriptBegun input Told2 output (worse ending said) × WroteSome was after output)
 unfolding turned whatever_written
-cut_off None now then was is after store next ending said count kept text h read rest some answered wrote = tt
-cut_off (Some input) now then was is after store next ending said count kept text h read rest some answered wrote =
+cut_off Told Told2 number None now then was is after store next ending said count kept text h read rest some answered wrote say = tt
+cut_off Told Told2 number (Some input) now then was is after store next ending said count kept text h read rest some answered wrote say =
     let whole = take_through 10 h.rest in
     let read2 : IsReadLine whole count kept = subst (λ (o : Option (List ℕ)). IfSome o (λ xs. IsReadLine (take_through 10 xs) count kept)) h.left read in
     let answer = answered.answers whole read2 in
-    let under = turned (Some input) now then None None None store next ending said count kept text (whatever_written (Some input) now was is store ending h) read rest some answered tt in (
+    let under = turned Told Told2 number (Some input) now then None None None store next ending said count kept text (whatever_written Told number (Some input) now was is store ending h) read rest some answered tt say in (
       flat_map turn_text (h.turns ++ answer.turn ∷ []),
-      script_begun then None None next (worse ending said) input under,
+      script_begun _ _ then None None next (worse ending said) input under,
       subst (λ (t : List ℕ). WroteSome was after t) (ap (λ t. flat_map turn_text h.turns ++ t) answer.text_is ∙ sym (text_more h.turns answer.turn)) (some_after was is after (flat_map turn_text h.turns) text h.wrote wrote),
     )
 
-pub at_cut : (old now then was is after : Option (List ℕ)) (store next : ModelStore) (ending said : Ending) (count : ℕ) (kept text : List ℕ) → worse ending said ≢ endings.OutOfMemory → IfSome old (IsUnder now was is store ending)
-    → IfSome now (λ xs. IsReadLine (take_through 10 xs) count kept) → DropsThrough now then 10 → 0 < count → AnswersRead store next count kept text said → WroteSome is after text → IfSome old (λ input. RanCut input was after)
-at_cut None now then was is after store next ending said count kept text memory h read rest some answered wrote = tt
-at_cut (Some input) now then was is after store next ending said count kept text memory h read rest some answered wrote =
-    let cut = cut_off (Some input) now then was is after store next ending said count kept text h read rest some answered wrote in
+pub at_cut : (Told Told2 : List (ℕ × LineFault) → Type 0) (number : ℕ) (old now then was is after : Option (List ℕ)) (store next : ModelStore) (ending said : Ending) (count : ℕ) (kept text : List ℕ) → worse ending said ≢ endings.OutOfMemory → IfSome old (IsUnder Told number now was is store ending)
+    → IfSome now (λ xs. IsReadLine (take_through 10 xs) count kept) → DropsThrough now then 10 → 0 < count → AnswersRead store next count kept text said → WroteSome is after text → ((whole : List ℕ) → IsReadLine whole count kept → (told : List (ℕ × LineFault)) → Told told → Told2 (told ++ told_of (number + 1) (fault_at (strip_last 10 whole)))) → IfSome old (λ input. RanCut input Told2 was after)
+at_cut Told Told2 number None now then was is after store next ending said count kept text memory h read rest some answered wrote say = tt
+at_cut Told Told2 number (Some input) now then was is after store next ending said count kept text memory h read rest some answered wrote say =
+    let cut = cut_off Told Told2 number (Some input) now then was is after store next ending said count kept text h read rest some answered wrote say in
     record { output = cut.0; ending = worse ending said; script = cut.1; has_memory = memory; wrote = cut.2 }
 
-pub at_failed_write : (old now then left was is after : Option (List ℕ)) (store next : ModelStore) (ending said : Ending) (count : ℕ) (kept text : List ℕ) → worse ending said ≡ endings.OutOfMemory → IfSome old (IsUnder now was is store ending)
-    → IfSome now (λ xs. IsReadLine (take_through 10 xs) count kept) → DropsThrough now then 10 → 0 < count → AnswersRead store next count kept text said → WroteSome is after text → IfSome old (λ input. RanOut input left was after)
-at_failed_write None now then left was is after store next ending said count kept text memory h read rest some answered wrote = tt
-at_failed_write (Some input) now then left was is after store next ending said count kept text memory h read rest some answered wrote =
-    let cut = cut_off (Some input) now then was is after store next ending said count kept text h read rest some answered wrote in
-    failed_write cut.0 (subst (λ (e : Ending). IsScriptBegun input cut.0 e) memory cut.1) cut.2
+pub at_failed_write : (Told Told2 : List (ℕ × LineFault) → Type 0) (number : ℕ) (old now then left was is after : Option (List ℕ)) (store next : ModelStore) (ending said : Ending) (count : ℕ) (kept text : List ℕ) → worse ending said ≡ endings.OutOfMemory → IfSome old (IsUnder Told number now was is store ending)
+    → IfSome now (λ xs. IsReadLine (take_through 10 xs) count kept) → DropsThrough now then 10 → 0 < count → AnswersRead store next count kept text said → WroteSome is after text → ((whole : List ℕ) → IsReadLine whole count kept → (told : List (ℕ × LineFault)) → Told told → Told2 (told ++ told_of (number + 1) (fault_at (strip_last 10 whole)))) → IfSome old (λ input. RanOut input Told2 left was after)
+at_failed_write Told Told2 number None now then left was is after store next ending said count kept text memory h read rest some answered wrote say = tt
+at_failed_write Told Told2 number (Some input) now then left was is after store next ending said count kept text memory h read rest some answered wrote say =
+    let cut = cut_off Told Told2 number (Some input) now then was is after store next ending said count kept text h read rest some answered wrote say in
+    failed_write cut.0 (subst (λ (e : Ending). IsScriptBegun input Told2 cut.0 e) memory cut.1) cut.2
 
 -- ---- the empty store
 

@@ -1,11 +1,14 @@
 -- The requests of the lines of a script.
 use Rattle.std.specs.Prelude.{ℕ, zero, suc, ◌+◌, ◌%◌, List, [], ◌∷◌, Option, Some, None, Result, Ok, Err, if◌then◌else◌, nat_le, codes, length}
+use Rattle.std.specs.List.{list_any}
 use Rattle.std.specs.Str.{bytes_eq}
 use Rattle.hex.specs.Hex.{decode_of, decode_sized}
 use Rattle.hex.specs.declared.error.FromHexError.{FromHexError}
 use Rattle.edge.specs.Fields.{◌>>=◌, split_at, number_at, space, two_numbers_at}
 use Rattle.store_core.specs.declared.command.Command.TheVariants as commands
 use Rattle.store_core.specs.declared.store.questions.Question.TheVariants as questions
+use Rattle.store_lines.specs.declared.bad_lines.LineFault.{LineFault}
+use Rattle.store_lines.specs.declared.bad_lines.LineFault.TheVariants.{BadFields, UnknownCommand}
 use Rattle.store_lines.specs.declared.request.EntryRange.{EntryRange}
 use Rattle.store_lines.specs.declared.request.Request.{Request}
 use Rattle.store_lines.specs.declared.request.Request.TheVariants.{Asks, Does, Entries, Put}
@@ -173,3 +176,32 @@ split_line_at line (Some cut) = if bytes_eq cut.0 (codes "put") then puts_at cut
 -- the command of a line without its newline, unless the line is outside the grammar
 abbrev pub command_at : List ℕ → Option Request
 command_at line = split_line_at line (split_at space line)
+
+-- ---- a line outside the grammar
+
+-- the first words of lines
+abbrev pub words : List (List ℕ)
+words =
+    codes "abort" ∷ codes "begin" ∷ codes "fetch" ∷ codes "fix" ∷ codes "forget" ∷ codes "journal" ∷ codes "limit" ∷ codes "list" ∷ codes "open"
+    ∷ codes "put" ∷ codes "seal" ∷ codes "sealas" ∷ codes "stat" ∷ codes "tenant" ∷ codes "usage" ∷ []
+
+-- the first word of a line that is split after it
+abbrev pub word_of : List ℕ → Option (List ℕ × List ℕ) → List ℕ
+word_of line None = line
+word_of line (Some cut) = cut.0
+
+-- why a line with this first word has no command: it is none of these; or a field is missing, wrong or extra
+unfoldable pub word_fault : List ℕ → LineFault
+word_fault word = if list_any (λ known. bytes_eq known word) words then BadFields else UnknownCommand
+
+abbrev pub line_fault : List ℕ → LineFault
+line_fault line = word_fault (word_of line (split_at space line))
+
+-- the fault of a line without its newline; an empty line has none
+abbrev pub fault_unless : Option Request → LineFault → Option LineFault
+fault_unless None fault = Some fault
+fault_unless (Some request) fault = None
+
+abbrev pub fault_at : List ℕ → Option LineFault
+fault_at [] = None
+fault_at (b ∷ line) = fault_unless (command_at (b ∷ line)) (line_fault (b ∷ line))

@@ -7,6 +7,8 @@ use Rattle.hex.specs.Hex.{encode_lower}
 use Rattle.store_journal.specs.declared.entry.Entry.{Entry}
 use Rattle.store_books.specs.declared.refusal.Refusal.TheVariants as refusals
 use Rattle.store_core.specs.Commands.{ModelSealed}
+use Rattle.store_lines.specs.declared.bad_lines.LineFault.{LineFault}
+use Rattle.store_lines.specs.declared.bad_lines.LineFault.TheVariants as line_faults
 use Rattle.store_books.specs.Refusals.{refusal_text}
 use Rattle.store_upload.specs.Texts.{part_fault_text}
 use Rattle.store_journal.specs.Entries.{filing_word}
@@ -42,3 +44,8 @@ unmade_text faults.PartTooLong = part_fault_text faults.PartTooLong
 
 abbrev pub refused_text : List ℕ → List ℕ
 refused_text name = codes "refused " ++ (name ++ codes "\n")
+
+-- why a line is outside the grammar
+abbrev pub line_fault_text : LineFault → List ℕ
+line_fault_text line_faults.UnknownCommand = codes "unknown command"
+line_fault_text line_faults.BadFields = codes "a field is missing, wrong or extra"

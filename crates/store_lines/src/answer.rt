@@ -3,11 +3,14 @@
 ghost use Rattle.std.specs.Prelude.{◌≡◌, ◌<◌, IfErr, IfOk, OnErr, OnOk};
 ghost use Rattle.std.specs.Io.KnownBytes.{Appends};
 ghost use Rattle.edge.specs.Output.{WroteSome};
-ghost use Rattle.store_lines.specs.inner.Answers.{Answered, AnswersRead, IsTurnOf, PutsRead, is_good, reported_ending, reported_text};
+ghost use Rattle.store_lines.specs.inner.Answers.{Answered, AnswersRead, AnswersRequest, IsTurnOf, PutsRead, TellsRead, is_good, reported_ending, reported_text};
+ghost use Rattle.store_lines.specs.Grammar.{fault_at};
 ghost use Rattle.store_lines.specs.Lines.{IsPutLine};
+ghost use Rattle.store_lines.specs.Running.{AreTold, told_of};
 ghost use Rattle.store_lines.specs.Script.{fault_ending, reply_ending};
 ghost use Rattle.std.specs.Io.BufRead.{strip_last};
 
+use crate::bad_lines::{BadLines, line_fault};
 use crate::ending::Ending;
 use crate::own::chosen;
 use crate::parsing::read_script_request;
@@ -93,25 +96,30 @@ fn reply_ending(reply: &Result<Reply, Refusal>) -> Ending
     }
 }
 
-/// Answers a line of `count` bytes, with its newline, of which at most as many are kept as a command's line can have. If an allocation
-/// fails for the contents of the line, the store is unchanged.
-pub(crate) fn answer_read(
+/// Answers the line with this number, of `count` bytes with its newline, of which at most as many are kept as a command's line can have.
+/// If it is outside the grammar, that is told. If an allocation fails for the contents of the line, the store is unchanged.
+pub(crate) fn answer_read<F: BadLines>(
     alloc: Global,
     store: &mut Store,
+    number: u64,
     line: &[u8],
     count: usize,
+    faults: &mut F,
     work: &mut Work,
 ) -> Result<Answer, AllocError>
     requires { 0 < count }
     ensures answered { IfOk result (λ answer. AnswersRead store.old store.new count line.now (reported_text store.new.journal answer) (reported_ending answer)) }
+    ensures told { OnOk result (TellsRead F.tells faults.old faults.new number count line.now) }
     ensures unchanged { OnErr result (store.new ≡ store.old) }
+    ensures untold { OnErr result (faults.new ≡ faults.old) }
     // An allocation can fail only for the bytes of a part.
     ensures memory { OnErr result (PutsRead count line.now) }
 {
     if count > MAX_LINE {
+        faults.tell(number, line_fault(line));
         return Ok(Answer::Bad);
     }
-    answer_line(alloc, store, without_end(line), work)
+    answer_line(alloc, store, number, without_end(line), faults, work)
 }
 
 /// A line without its newline, which may be missing on the last line.
@@ -124,27 +132,42 @@ pub(crate) fn without_end(line: &[u8]) -> &[u8]
     }
 }
 
-// Answers a line without its newline.
-fn answer_line(
+// Answers the line with this number, without its newline.
+fn answer_line<F: BadLines>(
     alloc: Global,
     store: &mut Store,
+    number: u64,
     line: &[u8],
+    faults: &mut F,
     work: &mut Work,
 ) -> Result<Answer, AllocError>
     ensures answered { IfOk result (λ answer. Answered (IsTurnOf store.old line.now store.new) (reported_text store.new.journal answer) (reported_ending answer)) }
+    ensures told { OnOk result (AreTold F.tells faults.old faults.new (told_of number (fault_at line.now))) }
     ensures unchanged { OnErr result (store.new ≡ store.old) }
+    ensures untold { OnErr result (faults.new ≡ faults.old) }
     ensures memory { OnErr result (IsPutLine line.now) }
 {
     if line.is_empty() {
         return Ok(Answer::Nothing);
     }
     match read_script_request(alloc, line)? {
-        Some(Request::Does(command)) => Ok(Answer::Replied(store.step(command, work))),
-        Some(Request::Asks(question)) => Ok(Answer::Replied(store.ask(question))),
-        Some(Request::Entries(range)) => Ok(Answer::Entries(range)),
-        Some(Request::Put(part)) => Ok(put_bytes(alloc, store, part, work)),
-        None | Some(Request::PutRaw(_)) | Some(Request::File(_)) | Some(Request::Fetch(_)) => Ok(
-            Answer::Bad,
-        ),
+        Ok(request) => Ok(answer_request(alloc, store, request, work)),
+        Err(fault) => {
+            faults.tell(number, fault);
+            Ok(Answer::Bad)
+        }
+    }
+}
+
+// Answers a request of a script.
+fn answer_request(alloc: Global, store: &mut Store, request: Request, work: &mut Work) -> Answer
+    ensures { AnswersRequest store.old store.new request (reported_text store.new.journal result) (reported_ending result) }
+{
+    match request {
+        Request::Does(command) => Answer::Replied(store.step(command, work)),
+        Request::Asks(question) => Answer::Replied(store.ask(question)),
+        Request::Entries(range) => Answer::Entries(range),
+        Request::Put(part) => put_bytes(alloc, store, part, work),
+        Request::PutRaw(_) | Request::File(_) | Request::Fetch(_) => Answer::Bad,
     }
 }

@@ -41,6 +41,7 @@
 mod access;
 mod answer;
 mod answering;
+mod bad_lines;
 mod digits;
 mod ending;
 mod filing;
@@ -61,6 +62,7 @@ mod session_line;
 mod texts;
 
 pub use access::Access;
+pub use bad_lines::{BadLines, LineFault, Untold};
 pub use edge::{Cause, Verdict};
 pub use ending::Ending;
 pub use giving::write_entries;

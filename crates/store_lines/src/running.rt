@@ -5,12 +5,13 @@ ghost use Rattle.std.specs.Io.BufRead.{DropsThrough, take_through};
 ghost use Rattle.std.specs.Io.KnownBytes.{Appends, IsAtEnd};
 ghost use Rattle.edge.specs.Output.{WroteSome};
 ghost use Rattle.store_lines.specs.inner.Answers.{IsReadLine, reported_ending, reported_text};
-ghost use Rattle.store_lines.specs.Running.{Ran, RanCut, RanOut, RanSome};
+ghost use Rattle.store_lines.specs.Running.{AreTold, Ran, RanCut, RanOut, RanSome};
 ghost use Rattle.store_lines.specs.Script.{verdict_ending, widest_start, worse};
 ghost use Rattle.store_lines.specs.inner.Script.{ended_as, first_cause};
 ghost use Rattle.store_lines.specs.declared.ending.Ending.TheVariants as endings;
 
 use crate::answer::{Answer, MAX_LINE, answer_read};
+use crate::bad_lines::BadLines;
 use crate::ending::Ending;
 use b3_core::Work;
 use edge::{Cause, Verdict, flush};
@@ -24,51 +25,54 @@ use store_core::{Limits, Store};
 /// It stops at the first failed read or write, or if an allocation fails for a line or a part's bytes; then nothing more is written. After
 /// 2^64-1 lines it stops reading, as std's readers do. If some answer is `refused S14`, the following lines are still answered, but the run
 /// ends with `OutOfMemory`, even if a read or a write fails later: the first cause is returned. A partial line left by a failed read is not
-/// run. Compressions are counted in `work`.
-pub fn run<R: BufRead, W: Write>(
+/// run. `faults` is told of each line outside the grammar before it is answered. Compressions are counted in `work`.
+pub fn run<R: BufRead, W: Write, F: BadLines>(
     alloc: Global,
     reader: &mut R,
     writer: &mut W,
+    faults: &mut F,
     work: &mut Work,
 ) -> Result<Verdict, Cause>
     // The writer grew by the script's output, and the verdict is that of its answers, none of which is `refused S14`.
-    ensures written { IfOk result (λ verdict. IfSome (R.Read.remaining reader.old) (λ input. Ran input (W.contents writer.old) (W.contents writer.new) (verdict_ending verdict))) }
+    ensures written { IfOk result (λ verdict. IfSome (R.Read.remaining reader.old) (λ input. Ran input (AreTold F.tells faults.old faults.new) (W.contents writer.old) (W.contents writer.new) (verdict_ending verdict))) }
     ensures end { OnOk result (IfSome (R.Read.remaining reader.old) (λ _. IsAtEnd (R.Read.remaining reader.new))) }
     // After a failed read it grew by the answers to a prefix of the lines, none of which is `refused S14`.
-    ensures read { result ≡ Err Cause.CannotRead → IfSome (R.Read.remaining reader.old) (λ input. RanSome input (W.contents writer.old) (W.contents writer.new)) }
+    ensures read { result ≡ Err Cause.CannotRead → IfSome (R.Read.remaining reader.old) (λ input. RanSome input (AreTold F.tells faults.old faults.new) (W.contents writer.old) (W.contents writer.new)) }
     // After a failed write it grew by a prefix of such answers, the last of which was being written.
-    ensures failed { result ≡ Err Cause.CannotWrite → IfSome (R.Read.remaining reader.old) (λ input. RanCut input (W.contents writer.old) (W.contents writer.new)) }
+    ensures failed { result ≡ Err Cause.CannotWrite → IfSome (R.Read.remaining reader.old) (λ input. RanCut input (AreTold F.tells faults.old faults.new) (W.contents writer.old) (W.contents writer.new)) }
     // If out of memory, it grew by the script's output, with a `refused S14` in it, or by the answers to a prefix of the lines; or, if a
     // write failed after a `refused S14`, by a prefix of these answers.
-    ensures memory { result ≡ Err Cause.OutOfMemory → IfSome (R.Read.remaining reader.old) (λ input. RanOut input (R.Read.remaining reader.new) (W.contents writer.old) (W.contents writer.new)) }
+    ensures memory { result ≡ Err Cause.OutOfMemory → IfSome (R.Read.remaining reader.old) (λ input. RanOut input (AreTold F.tells faults.old faults.new) (R.Read.remaining reader.new) (W.contents writer.old) (W.contents writer.new)) }
 {
     let mut store = Store::new(alloc, Limits::full());
-    answer_lines(alloc, &mut store, reader, writer, work)
+    answer_lines(alloc, &mut store, reader, writer, faults, work)
 }
 
 // Answers the lines of a script, starting with an empty store.
-fn answer_lines<R: BufRead, W: Write>(
+fn answer_lines<R: BufRead, W: Write, F: BadLines>(
     alloc: Global,
     store: &mut Store,
     reader: &mut R,
     writer: &mut W,
+    faults: &mut F,
     work: &mut Work,
 ) -> Result<Verdict, Cause>
     requires { store.old ≡ widest_start }
-    ensures written { IfOk result (λ verdict. IfSome (R.Read.remaining reader.old) (λ input. Ran input (W.contents writer.old) (W.contents writer.new) (verdict_ending verdict))) }
+    ensures written { IfOk result (λ verdict. IfSome (R.Read.remaining reader.old) (λ input. Ran input (AreTold F.tells faults.old faults.new) (W.contents writer.old) (W.contents writer.new) (verdict_ending verdict))) }
     ensures end { OnOk result (IfSome (R.Read.remaining reader.old) (λ _. IsAtEnd (R.Read.remaining reader.new))) }
-    ensures read { result ≡ Err Cause.CannotRead → IfSome (R.Read.remaining reader.old) (λ input. RanSome input (W.contents writer.old) (W.contents writer.new)) }
-    ensures failed { result ≡ Err Cause.CannotWrite → IfSome (R.Read.remaining reader.old) (λ input. RanCut input (W.contents writer.old) (W.contents writer.new)) }
-    ensures memory { result ≡ Err Cause.OutOfMemory → IfSome (R.Read.remaining reader.old) (λ input. RanOut input (R.Read.remaining reader.new) (W.contents writer.old) (W.contents writer.new)) }
+    ensures read { result ≡ Err Cause.CannotRead → IfSome (R.Read.remaining reader.old) (λ input. RanSome input (AreTold F.tells faults.old faults.new) (W.contents writer.old) (W.contents writer.new)) }
+    ensures failed { result ≡ Err Cause.CannotWrite → IfSome (R.Read.remaining reader.old) (λ input. RanCut input (AreTold F.tells faults.old faults.new) (W.contents writer.old) (W.contents writer.new)) }
+    ensures memory { result ≡ Err Cause.OutOfMemory → IfSome (R.Read.remaining reader.old) (λ input. RanOut input (AreTold F.tells faults.old faults.new) (R.Read.remaining reader.new) (W.contents writer.old) (W.contents writer.new)) }
 {
     let mut ending = Ending::Good;
     let mut line: Vec<u8> = Vec::new(alloc);
-    for _ in 0..u64::MAX {
+    for index in 0..u64::MAX {
         let count = read_line(reader, &mut line, ending)?;
         if count == 0 {
             return ended_as(ending);
         }
-        let answer = answer_read(alloc, store, line.as_slice(), count, work)?;
+        let number = index + 1;
+        let answer = answer_read(alloc, store, number, line.as_slice(), count, faults, work)?;
         ending = worse(ending, answer.ending());
         report(writer, store, answer, ending)?;
     }

@@ -52,8 +52,8 @@ fn kept_line(alloc: Global, line: &[u8]) -> Line
         return Line::Empty;
     }
     match read_script_request(alloc, line) {
-        Ok(Some(request)) => Line::Has(request),
-        Ok(None) => Line::Bad,
+        Ok(Ok(request)) => Line::Has(request),
+        Ok(Err(_)) => Line::Bad,
         Err(_) => Line::NoMemory,
     }
 }

@@ -1,8 +1,9 @@
 -- Definitions for private functions, in addition to specs/Requests.
-use Rattle.std.specs.Prelude.{◌≡◌, ◌<◌, ◌≤◌, ◌⊎◌, ℕ, List, Some, None, Option, length}
+use Rattle.std.specs.Prelude.{◌≡◌, ◌<◌, ◌≤◌, ◌⊎◌, ℕ, Err, List, None, Ok, Option, Result, Some, length}
 use Rattle.std.specs.Io.BufRead.{strip_last}
 use Rattle.edge.specs.Lines.{IsLineRead}
 use Rattle.edge.specs.declared.lines.LineRead.{LineRead}
+use Rattle.store_lines.specs.declared.bad_lines.LineFault.{LineFault}
 use Rattle.store_lines.specs.declared.request.Request.{Request}
 use Rattle.store_lines.specs.declared.request.Request.TheVariants.{File, PutRaw}
 use Rattle.store_lines.specs.Lines.{IsPutLine, max_request}
@@ -18,6 +19,11 @@ IsSessionLine whole read kept = IsLineRead 33554481 max_request whole read kept
 -- it is the request of the line that was read
 pub record AsksFor (read : LineRead) (kept : List ℕ) (request : Option Request) : Type 0 where
   pub asks : (whole : List ℕ) → IsSessionLine whole read kept → request ≡ request_in whole
+
+-- the request of a line, or why it has none
+abbrev pub read_as : Option Request → LineFault → Result Request LineFault
+read_as (Some request) fault = Ok request
+read_as None fault = Err fault
 
 -- reading a line of a script may allocate: if it is long, or puts a part
 abbrev pub MayTakeMemory : List ℕ → Type 0

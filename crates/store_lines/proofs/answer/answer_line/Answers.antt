@@ -1,33 +1,40 @@
-use Rattle.std.proofs.Common.{rules, ◌≡◌, ◌<◌, Some, length, refl}
-use Rattle.store_lines.specs.Grammar.{command_at}
-use Rattle.store_lines.specs.declared.request.Request.TheVariants.{Asks, Does, Entries, Put}
-use Rattle.store_lines.proofs.LineOutcomes.{asked, done, listed_these, nothing, put_asked}
+use Rattle.std.proofs.Common.{rules, ◌≡◌, ◌<◌, Err, Ok, length, refl}
+use Rattle.store_lines.specs.Grammar.{command_at, fault_at, line_fault}
+use Rattle.store_lines.specs.inner.Requests.{read_as}
+use Rattle.store_lines.proofs.Told.{bad_line, empty_line, fault_read, good_line, request_read, tells_none, tells_one}
+use Rattle.store_lines.proofs.LineOutcomes.{no_command, nothing}
 use Rattle.store_lines.proofs.answer.answer_line.Goals as goal
 
 pub returns-then-is_empty-clause-answered : goal.returns-then-is_empty-clause-answered
-returns-then-is_empty-clause-answered c = nothing c.args.store.now c.args.line.now _ _ (search rules) refl refl
+returns-then-is_empty-clause-answered g c = nothing c.args.store.now c.args.line.now _ _ (search rules) refl refl
 
-pub returns-in-Some-Does-clause-answered : goal.returns-in-Some-Does-clause-answered
-returns-in-Some-Does-clause-answered c =
-    let some : 0 < length c.args.line.now = search rules in
-    let is : Some (Does c.in-Some-Does.command) ≡ command_at c.args.line.now = search rules in
-    done c.args.store.now c.step.new.self c.args.line.now _ _ c.in-Some-Does.command c.step.result some is c.step.ensures.step (refl, refl)
+pub returns-then-is_empty-clause-told : goal.returns-then-is_empty-clause-told
+returns-then-is_empty-clause-told g c = tells_none g.F.BadLines.tells c.args.faults.now c.args.number (fault_at c.args.line.now) (empty_line c.args.line.now (search rules))
 
-pub returns-in-Some-Asks-clause-answered : goal.returns-in-Some-Asks-clause-answered
-returns-in-Some-Asks-clause-answered c =
-    let some : 0 < length c.args.line.now = search rules in
-    let is : Some (Asks c.in-Some-Asks.question) ≡ command_at c.args.line.now = search rules in
-    asked c.args.store.now c.args.line.now _ _ c.in-Some-Asks.question c.ask.result some is c.ask.ensures (refl, refl)
+pub returns-in-Ok-clause-answered : goal.returns-in-Ok-clause-answered
+returns-in-Ok-clause-answered g c =
+    let line = c.args.line.now in
+    let some : 0 < length line = search rules in
+    let read : Ok c.in-Ok.request ≡ read_as (command_at line) (line_fault line) = search rules in
+    c.answer_request.ensures.answers line some (request_read (command_at line) (line_fault line) c.in-Ok.request read)
 
-pub returns-in-Some-Entries-clause-answered : goal.returns-in-Some-Entries-clause-answered
-returns-in-Some-Entries-clause-answered c =
-    let some : 0 < length c.args.line.now = search rules in
-    let is : Some (Entries c.in-Some-Entries.range) ≡ command_at c.args.line.now = search rules in
-    listed_these c.args.store.now c.args.line.now c.in-Some-Entries.range some is
+pub returns-in-Ok-clause-told : goal.returns-in-Ok-clause-told
+returns-in-Ok-clause-told g c =
+    let line = c.args.line.now in
+    let read : Ok c.in-Ok.request ≡ read_as (command_at line) (line_fault line) = search rules in
+    tells_none g.F.BadLines.tells c.args.faults.now c.args.number (fault_at line) (good_line line c.in-Ok.request (request_read (command_at line) (line_fault line) c.in-Ok.request read))
 
-pub returns-in-Some-Put-clause-answered : goal.returns-in-Some-Put-clause-answered
-returns-in-Some-Put-clause-answered c =
-    let part = c.in-Some-Put.part in
-    let some : 0 < length c.args.line.now = search rules in
-    let is : Some (Put part) ≡ command_at c.args.line.now = search rules in
-    put_asked c.args.store.now c.put_bytes.new.access c.args.line.now part c.put_bytes.result some is c.put_bytes.ensures
+pub returns-in-Err-clause-answered : goal.returns-in-Err-clause-answered
+returns-in-Err-clause-answered g c =
+    let line = c.args.line.now in
+    let some : 0 < length line = search rules in
+    let read : Err c.in-Err.fault ≡ read_as (command_at line) (line_fault line) = search rules in
+    no_command c.args.store.now line _ _ some (fault_read (command_at line) (line_fault line) c.in-Err.fault read).0 (refl, refl)
+
+pub returns-in-Err-clause-told : goal.returns-in-Err-clause-told
+returns-in-Err-clause-told g c =
+    let line = c.args.line.now in
+    let some : 0 < length line = search rules in
+    let read : Err c.in-Err.fault ≡ read_as (command_at line) (line_fault line) = search rules in
+    let none = fault_read (command_at line) (line_fault line) c.in-Err.fault read in
+    tells_one g.F.BadLines.tells c.args.faults.now c.tell.new.self c.args.number c.in-Err.fault (fault_at line) (rw none.1 (bad_line line some none.0)) c.tell.ensures

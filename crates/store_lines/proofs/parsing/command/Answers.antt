@@ -2,7 +2,7 @@ use Rattle.std.proofs.Common.{rules, ◌≡◌, Some}
 use Rattle.std.specs.Prelude.{codes}
 use Rattle.edge.specs.Fields.{split_at, space}
 use Rattle.store_lines.proofs.LineOutcomes.{always, put_line}
-use Rattle.store_lines.proofs.parsing.read_script_request.Goals as goal
+use Rattle.store_lines.proofs.parsing.command.Goals as goal
 
 pub returns-then-eq-clause-memory : goal.returns-then-eq-clause-memory
 returns-then-eq-clause-memory c =
