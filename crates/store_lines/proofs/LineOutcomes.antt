@@ -1,8 +1,8 @@
 -- What a line results in.
 use Rattle.std.proofs.Common.{◌≡◌, ◌∙◌, ◌+◌, ◌-◌, ◌<◌, ◌≤◌, ℕ, List, [], ◌∷◌, ◌++◌, Some, None, Ok, Err, Result, refl, ap, sym, subst, arith, cond, length, take}
-use Rattle.std.specs.Prelude.{◌&&◌, ◌==◌, Bool, IfOk, OnErr, codes, false, nat_lt, slice_index, true}
+use Rattle.std.specs.Prelude.{◌&&◌, ◌==◌, Bool, OnErr, codes, false, nat_lt, slice_index, true}
 use Rattle.std.specs.Io.BufRead.{strip_last}
-use Rattle.std.proofs.lemmas.List.{length-take, take_all}
+use Rattle.std.proofs.lemmas.List.{length-take}
 use Rattle.edge.specs.Fields.{split_at, space}
 use Rattle.edge.proofs.FieldTexts.{split_found}
 use Rattle.store_books.specs.declared.refusal.Refusal.{Refusal}
@@ -19,18 +19,21 @@ use Rattle.store_lines.specs.declared.request.Request.{Request}
 use Rattle.store_lines.specs.declared.request.Request.TheVariants.{Asks, Does, Entries, Put}
 use Rattle.store_lines.specs.Access.{SessionState, advance, alone_reach, alone_stands, at}
 use Rattle.store_lines.specs.Lines.{IsPutLine}
-use Rattle.store_lines.specs.inner.Answers.{Answered, AnswersRead, AnswersRequest, IsTurnOf, PutsRead, reported_ending, reported_text}
+use Rattle.edge.specs.declared.lines.LineRead.{LineRead}
+use Rattle.store_lines.specs.declared.bad_lines.LineFault.{LineFault}
+use Rattle.store_lines.specs.declared.session_line.Line.{Line}
+use Rattle.store_lines.specs.declared.session_line.Line.TheVariants as lines
+use Rattle.store_lines.specs.inner.Requests.{IsLineOf, IsScriptFound}
+use Rattle.store_lines.specs.inner.Answers.{Answered, AnswersRead, AnswersRequest, IsTurnOf, LacksRead, reported_ending, reported_text}
 use Rattle.store_lines.specs.Turns.{IsLinkedPut, IsLinkedStep}
 use Rattle.store_lines.specs.inner.Reporting.{AnsweredOver}
 use Rattle.store_lines.proofs.Read.{found}
 use Rattle.store_lines.proofs.Reports.{plays}
 use Rattle.store_lines.specs.Spelling.{IsSpelled}
-use Rattle.store_lines.proofs.Lengths.{long_is_none}
 use Rattle.store_lines.specs.Script.{bad, listed, range_entries, reply_ending, skipped, took}
 use Rattle.store_lines.specs.Texts.{entries_text}
 use Rattle.store_lines.specs.Questions.{answer_text}
 use Rattle.store_lines.specs.declared.answer.Answer.{Answer}
-use Rattle.store_lines.specs.declared.answer.Answer.TheVariants as answers
 use Rattle.store_lines.specs.declared.ending.Ending.{Ending}
 use Rattle.store_lines.specs.declared.ending.Ending.TheVariants as endings
 
@@ -126,24 +129,23 @@ strip_shorter xs = go (nat_lt 0 (length xs) && slice_index xs (length xs - 1) ==
     go true = omega (arith, length-take (length xs - 1) xs)
     go false = omega arith
 
--- a longer line is no command
-pub long_line : (old : ModelStore) (count : ℕ) (kept : List ℕ) → 33554481 < count → AnswersRead old old count kept (reported_text old.journal answers.Bad) (reported_ending answers.Bad)
-long_line old count kept long = record {
-  answers = λ whole read.
-      let line = strip_last 10 whole in
-      let most : 33554480 < length line = omega (arith, long, read.0, strip_shorter whole) in
-      no_command old line (codes "bad\n") endings.Refused (omega (arith, most)) (sym (long_is_none line most)) (refl, refl);
+pub read_nothing : (old : ModelStore) (read : LineRead) (kept text : List ℕ) (ending : Ending) (found : Line) → found ≡ lines.Empty → IsScriptFound read kept found → text ≡ [] → ending ≡ endings.Good → AnswersRead old old read kept text ending
+read_nothing old read kept text ending found same h text_is ending_is = record {
+  answers = λ whole r. let line = strip_last 10 whole in nothing old line text ending (subst (IsLineOf line) same (h.is whole r)) text_is ending_is;
 }
 
--- any other is kept whole
-pub short_line : {E : Type 0} (r : Result Answer E) (old new : ModelStore) (count : ℕ) (kept line : List ℕ) → count ≤ 33554481 → line ≡ strip_last 10 kept → IfOk r (λ a. Answered (IsTurnOf old line new) (reported_text new.journal a) (reported_ending a))
-    → IfOk r (λ a. AnswersRead old new count kept (reported_text new.journal a) (reported_ending a))
-short_line (Err e) old new count kept line short is h = tt
-short_line (Ok a) old new count kept line short is h = record {
-  answers = λ whole read.
-      let all : kept ≡ whole = read.1 ∙ take_all 33554481 whole (omega (arith, short, read.0)) in
-      subst (λ (l : List ℕ). Answered (IsTurnOf old l new) (reported_text new.journal a) (reported_ending a)) (is ∙ ap (strip_last 10) all) h;
+pub read_bad : (old : ModelStore) (read : LineRead) (kept text : List ℕ) (ending : Ending) (found : Line) (fault : LineFault) → found ≡ lines.Bad fault → IsScriptFound read kept found → SaysBad text ending → AnswersRead old old read kept text ending
+read_bad old read kept text ending found fault same h says = record {
+  answers = λ whole r. let line = strip_last 10 whole in let is = subst (IsLineOf line) same (h.is whole r) in no_command old line text ending is.0 is.1 says;
 }
+
+pub read_request : (old new : ModelStore) (read : LineRead) (kept text : List ℕ) (ending : Ending) (found : Line) (request : Request) → found ≡ lines.Has request → IsScriptFound read kept found → AnswersRequest old new request text ending → AnswersRead old new read kept text ending
+read_request old new read kept text ending found request same h a = record {
+  answers = λ whole r. let line = strip_last 10 whole in let is = subst (IsLineOf line) same (h.is whole r) in a.answers line is.0 is.1;
+}
+
+pub read_lacks : (read : LineRead) (kept : List ℕ) (found : Line) → found ≡ lines.NoMemory → IsScriptFound read kept found → LacksRead read kept
+read_lacks read kept found same h = record { lacks = λ whole r. subst (IsLineOf (strip_last 10 whole)) same (h.is whole r) }
 
 -- ---- out of memory
 
@@ -153,11 +155,3 @@ put_line line kind fields cut is = (fields, sym (split_found space line (kind, f
 pub always : {A E P : Type 0} (r : Result A E) → P → OnErr r P
 always (Ok a) p = tt
 always (Err e) p = p
-
-pub short_put : {A E : Type 0} (r : Result A E) (count : ℕ) (kept line : List ℕ) → count ≤ 33554481 → line ≡ strip_last 10 kept → OnErr r (IsPutLine line) → OnErr r (PutsRead count kept)
-short_put (Ok a) count kept line short is h = tt
-short_put (Err e) count kept line short is h = record {
-  puts = λ whole read.
-      let all : kept ≡ whole = read.1 ∙ take_all 33554481 whole (omega (arith, short, read.0)) in
-      subst IsPutLine (is ∙ ap (strip_last 10) all) h;
-}

@@ -13,6 +13,10 @@ use Rattle.store_lines.specs.declared.session_line.Line.{Line}
 use Rattle.store_lines.specs.declared.session_line.Line.TheVariants as lines
 use Rattle.store_lines.proofs.Lengths.{long_is_none}
 use Rattle.store_lines.proofs.LineOutcomes.{strip_shorter}
+use Rattle.store_lines.proofs.Told.{fault_taken, strip_taken}
+use Rattle.store_lines.specs.Grammar.{command_at, line_fault}
+use Rattle.store_lines.specs.declared.bad_lines.LineFault.{LineFault}
+use Rattle.store_lines.specs.inner.Requests.{read_as}
 
 session_line : (room : ℕ) (whole : List ℕ) (read : LineRead) (kept : List ℕ) → max_request ≤ room → IsLineRead 33554481 room whole read kept → IsSessionLine whole read kept
 session_line room whole read kept le h = record {
@@ -49,11 +53,14 @@ asks_this read kept line request is_kept short is asks = record {
 pub no_memory_line : (read : LineRead) (kept : List ℕ) → read.is_kept ≡ false → IsScriptFound read kept lines.NoMemory
 no_memory_line read kept lost = record { is = λ whole h. inl (omega (arith, h.long lost, strip_shorter whole)) }
 
-pub long_line : (read : LineRead) (kept : List ℕ) → 33554481 < read.count → IsScriptFound read kept lines.Bad
-long_line read kept long = record {
+pub long_line : (read : LineRead) (kept : List ℕ) (fault : LineFault) → read.is_kept ≡ true → 33554481 < read.count → fault ≡ line_fault kept → IsScriptFound read kept (lines.Bad fault)
+long_line read kept fault is_kept long is = record {
   is = λ whole h.
-      let most : 33554480 < length (strip_last 10 whole) = omega (arith, long, h.count_is, strip_shorter whole) in
-      (omega (arith, most), sym (long_is_none (strip_last 10 whole) most));
+      let line = strip_last 10 whole in
+      let most : 33554480 < length line = omega (arith, long, h.count_is, strip_shorter whole) in
+      let longer : 33554481 < length whole = omega (arith, long, h.count_is) in
+      let same : line_fault kept ≡ line_fault line = ap line_fault (h.kept_is is_kept ∙ sym (strip_taken 33554481 whole longer)) ∙ fault_taken 33554481 line (omega arith) in
+      (omega (arith, most), sym (long_is_none line most), is ∙ same);
 }
 
 pub kept_line : (read : LineRead) (kept line : List ℕ) (found : Line) → read.is_kept ≡ true → read.count ≤ 33554481 → line ≡ strip_last 10 kept → IsScriptLine line found → IsScriptFound read kept found
@@ -63,11 +70,27 @@ kept_line read kept line found is_kept few is h = record {
       subst (λ (l : List ℕ). IsLineOf l found) (is ∙ ap (strip_last 10) all) h.is;
 }
 
+-- ---- a line that is kept
+
+request_read : (o : Option Request) (fault : LineFault) (request : Request) → Ok request ≡ read_as o fault → Some request ≡ o
+request_read (Some found) fault request is = cc
+request_read None fault request is = absurd (cc)
+
+fault_read : (o : Option Request) (fault found : LineFault) → Err found ≡ read_as o fault → (None ≡ o) × (found ≡ fault)
+fault_read None fault found is = (refl, cc)
+fault_read (Some request) fault found is = absurd (cc)
+
+pub has_request : (line : List ℕ) (request : Request) → 0 < length line → Ok request ≡ read_as (command_at line) (line_fault line) → IsScriptLine line (lines.Has request)
+has_request line request some is = record { is = (some, request_read (command_at line) (line_fault line) request is) }
+
+pub has_fault : (line : List ℕ) (fault : LineFault) → 0 < length line → Err fault ≡ read_as (command_at line) (line_fault line) → IsScriptLine line (lines.Bad fault)
+has_fault line fault some is = record { is = let none = fault_read (command_at line) (line_fault line) fault is in (some, none.0, none.1) }
+
 -- ---- a line of a session
 
 script_or_own : (whole : List ℕ) (found : Line) → None ≡ request_in whole → IsLineOf (strip_last 10 whole) found → IsOwnOrScript whole found
 script_or_own whole lines.Empty none h = (none, h)
-script_or_own whole lines.Bad none h = (none, h)
+script_or_own whole (lines.Bad fault) none h = (none, h)
 script_or_own whole lines.NoMemory none h = (none, h)
 script_or_own whole (lines.Has request) none h = inr (none, h)
 

@@ -24,7 +24,9 @@ use Rattle.store_lines.specs.Grammar.{command_at, fault_at}
 use Rattle.store_lines.specs.declared.request.Request.{Request}
 use Rattle.store_lines.specs.declared.request.EntryRange.{EntryRange}
 use Rattle.store_lines.specs.declared.request.Request.TheVariants.{Asks, Does, Entries, Put}
-use Rattle.store_lines.specs.inner.Answers.{AnswersRead, IsReadLine}
+use Rattle.edge.specs.declared.lines.LineRead.{LineRead}
+use Rattle.store_lines.specs.inner.Answers.{AnswersRead}
+use Rattle.store_lines.specs.inner.Requests.{IsSessionLine}
 use Rattle.store_lines.specs.Access.{SessionState, alone_reach, alone_stands, at, newly}
 use Rattle.store_lines.specs.Turns.{IsLinkedCommand, IsLinkedLine, IsLinkedListing, IsLinkedMade, IsLinkedPart, IsLinkedPlan, IsLinkedPut, IsLinkedStep}
 use Rattle.store_lines.specs.Running.{AreAnswered, AreTurnsOf, IsScriptBegun, Ran, RanCut, RanOut, RanSome, failed_write, ran_all, ran_some, told_from, told_of}
@@ -266,15 +268,15 @@ at_refusal Told number (Some input) now left was is store ending some h =
     ran_some (flat_map turn_text h.turns) ending (script_begun _ _ now was is store ending input h) (elim rest [ inl some ↦ inl (some_left h.rest some) | inr memory ↦ inr memory ]) h.wrote
 
 -- a line that was read is left
-pub line_left : (now : Option (List ℕ)) (ending : Ending) (count : ℕ) (kept : List ℕ) → 0 < count → IfSome now (λ xs. IsReadLine (take_through 10 xs) count kept) → IfSome now (λ input. (0 < length input) ⊎ (ending ≡ endings.OutOfMemory))
-line_left None ending count kept some h = tt
-line_left (Some []) ending count kept some h = absurd (omega (arith, some, h.0))
-line_left (Some (b ∷ bs)) ending count kept some h = inl (omega arith)
+pub line_left : (now : Option (List ℕ)) (ending : Ending) (got : LineRead) (kept : List ℕ) → 0 < got.count → IfSome now (λ xs. IsSessionLine (take_through 10 xs) got kept) → IfSome now (λ input. (0 < length input) ⊎ (ending ≡ endings.OutOfMemory))
+line_left None ending got kept some h = tt
+line_left (Some []) ending got kept some h = absurd (omega (arith, some, h.count_is))
+line_left (Some (b ∷ bs)) ending got kept some h = inl (omega arith)
 
 -- at the end nothing is read
-pub nothing_read : (now : Option (List ℕ)) (count : ℕ) (kept : List ℕ) → count ≡ 0 → IfSome now (λ xs. IsReadLine (take_through 10 xs) count kept) → IsAtEnd now
-nothing_read None count kept zero h = tt
-nothing_read (Some xs) count kept zero h = nothing_through xs (omega (arith, h.0, zero))
+pub nothing_read : (now : Option (List ℕ)) (got : LineRead) (kept : List ℕ) → got.count ≡ 0 → IfSome now (λ xs. IsSessionLine (take_through 10 xs) got kept) → IsAtEnd now
+nothing_read None got kept zero h = tt
+nothing_read (Some xs) got kept zero h = nothing_through xs (omega (arith, h.count_is, zero))
   where
     nothing_through : (xs : List ℕ) → length (take_through 10 xs) ≡ 0 → xs ≡ []
     nothing_through [] e = refl
@@ -340,15 +342,15 @@ reported_memory_read endings.OutOfMemory e = refl
 
 -- ---- a line more of a run
 
-pub turned : (Told Told2 : List (ℕ × LineFault) → Type 0) (number : ℕ) (old now then was is after : Option (List ℕ)) (store next : ModelStore) (ending said : Ending) (count : ℕ) (kept text : List ℕ) → IfSome old (IsUnder Told number now was is store ending) → IfSome now (λ xs. IsReadLine (take_through 10 xs) count kept)
-    → DropsThrough now then 10 → 0 < count → AnswersRead store next count kept text said → Appends is after text → ((whole : List ℕ) → IsReadLine whole count kept → (told : List (ℕ × LineFault)) → Told told → Told2 (told ++ told_of (number + 1) (fault_at (strip_last 10 whole)))) → IfSome old (IsUnder Told2 (number + 1) then was after next (worse ending said))
-turned Told Told2 number None now then was is after store next ending said count kept text h read rest some answered wrote say = tt
-turned Told Told2 number (Some input) now then was is after store next ending said count kept text h read rest some answered wrote say =
+pub turned : (Told Told2 : List (ℕ × LineFault) → Type 0) (number : ℕ) (old now then was is after : Option (List ℕ)) (store next : ModelStore) (ending said : Ending) (got : LineRead) (kept text : List ℕ) → IfSome old (IsUnder Told number now was is store ending) → IfSome now (λ xs. IsSessionLine (take_through 10 xs) got kept)
+    → DropsThrough now then 10 → 0 < got.count → AnswersRead store next got kept text said → Appends is after text → ((whole : List ℕ) → IsSessionLine whole got kept → (told : List (ℕ × LineFault)) → Told told → Told2 (told ++ told_of (number + 1) (fault_at (strip_last 10 whole)))) → IfSome old (IsUnder Told2 (number + 1) then was after next (worse ending said))
+turned Told Told2 number None now then was is after store next ending said got kept text h read rest some answered wrote say = tt
+turned Told Told2 number (Some input) now then was is after store next ending said got kept text h read rest some answered wrote say =
     let whole = take_through 10 h.rest in
-    let read2 : IsReadLine whole count kept = subst (λ (o : Option (List ℕ)). IfSome o (λ xs. IsReadLine (take_through 10 xs) count kept)) h.left read in
+    let read2 : IsSessionLine whole got kept = subst (λ (o : Option (List ℕ)). IfSome o (λ xs. IsSessionLine (take_through 10 xs) got kept)) h.left read in
     let rest2 : then ≡ Some (drop_through 10 h.rest) = subst (λ (o : Option (List ℕ)). DropsThrough o then 10) h.left rest in
     let line = strip_last 10 whole in
-    let some2 : 0 < length whole = omega (arith, some, read2.0) in
+    let some2 : 0 < length whole = omega (arith, some, read2.count_is) in
     let answer = answered.answers whole read2 in
     let goes = answer.is h.end h.stands in
     record {
@@ -369,32 +371,32 @@ turned Told Told2 number (Some input) now then was is after store next ending sa
 -- ---- a write that failed
 
 -- the answer to a line was cut off
-cut_off : (Told Told2 : List (ℕ × LineFault) → Type 0) (number : ℕ) (old now then was is after : Option (List ℕ)) (store next : ModelStore) (ending said : Ending) (count : ℕ) (kept text : List ℕ) → IfSome old (IsUnder Told number now was is store ending) → IfSome now (λ xs. IsReadLine (take_through 10 xs) count kept)
-    → DropsThrough now then 10 → 0 < count → AnswersRead store next count kept text said → WroteSome is after text → ((whole : List ℕ) → IsReadLine whole count kept → (told : List (ℕ × LineFault)) → Told told → Told2 (told ++ told_of (number + 1) (fault_at (strip_last 10 whole)))) → IfSome old (λ input. (output : List ℕ) × IsScriptBegun input Told2 output (worse ending said) × WroteSome was after output)
+cut_off : (Told Told2 : List (ℕ × LineFault) → Type 0) (number : ℕ) (old now then was is after : Option (List ℕ)) (store next : ModelStore) (ending said : Ending) (got : LineRead) (kept text : List ℕ) → IfSome old (IsUnder Told number now was is store ending) → IfSome now (λ xs. IsSessionLine (take_through 10 xs) got kept)
+    → DropsThrough now then 10 → 0 < got.count → AnswersRead store next got kept text said → WroteSome is after text → ((whole : List ℕ) → IsSessionLine whole got kept → (told : List (ℕ × LineFault)) → Told told → Told2 (told ++ told_of (number + 1) (fault_at (strip_last 10 whole)))) → IfSome old (λ input. (output : List ℕ) × IsScriptBegun input Told2 output (worse ending said) × WroteSome was after output)
 unfolding turned whatever_written
-cut_off Told Told2 number None now then was is after store next ending said count kept text h read rest some answered wrote say = tt
-cut_off Told Told2 number (Some input) now then was is after store next ending said count kept text h read rest some answered wrote say =
+cut_off Told Told2 number None now then was is after store next ending said got kept text h read rest some answered wrote say = tt
+cut_off Told Told2 number (Some input) now then was is after store next ending said got kept text h read rest some answered wrote say =
     let whole = take_through 10 h.rest in
-    let read2 : IsReadLine whole count kept = subst (λ (o : Option (List ℕ)). IfSome o (λ xs. IsReadLine (take_through 10 xs) count kept)) h.left read in
+    let read2 : IsSessionLine whole got kept = subst (λ (o : Option (List ℕ)). IfSome o (λ xs. IsSessionLine (take_through 10 xs) got kept)) h.left read in
     let answer = answered.answers whole read2 in
-    let under = turned Told Told2 number (Some input) now then None None None store next ending said count kept text (whatever_written Told number (Some input) now was is store ending h) read rest some answered tt say in (
+    let under = turned Told Told2 number (Some input) now then None None None store next ending said got kept text (whatever_written Told number (Some input) now was is store ending h) read rest some answered tt say in (
       flat_map turn_text (h.turns ++ answer.turn ∷ []),
       script_begun _ _ then None None next (worse ending said) input under,
       subst (λ (t : List ℕ). WroteSome was after t) (ap (λ t. flat_map turn_text h.turns ++ t) answer.text_is ∙ sym (text_more h.turns answer.turn)) (some_after was is after (flat_map turn_text h.turns) text h.wrote wrote),
     )
 
-pub at_cut : (Told Told2 : List (ℕ × LineFault) → Type 0) (number : ℕ) (old now then was is after : Option (List ℕ)) (store next : ModelStore) (ending said : Ending) (count : ℕ) (kept text : List ℕ) → worse ending said ≢ endings.OutOfMemory → IfSome old (IsUnder Told number now was is store ending)
-    → IfSome now (λ xs. IsReadLine (take_through 10 xs) count kept) → DropsThrough now then 10 → 0 < count → AnswersRead store next count kept text said → WroteSome is after text → ((whole : List ℕ) → IsReadLine whole count kept → (told : List (ℕ × LineFault)) → Told told → Told2 (told ++ told_of (number + 1) (fault_at (strip_last 10 whole)))) → IfSome old (λ input. RanCut input Told2 was after)
-at_cut Told Told2 number None now then was is after store next ending said count kept text memory h read rest some answered wrote say = tt
-at_cut Told Told2 number (Some input) now then was is after store next ending said count kept text memory h read rest some answered wrote say =
-    let cut = cut_off Told Told2 number (Some input) now then was is after store next ending said count kept text h read rest some answered wrote say in
+pub at_cut : (Told Told2 : List (ℕ × LineFault) → Type 0) (number : ℕ) (old now then was is after : Option (List ℕ)) (store next : ModelStore) (ending said : Ending) (got : LineRead) (kept text : List ℕ) → worse ending said ≢ endings.OutOfMemory → IfSome old (IsUnder Told number now was is store ending)
+    → IfSome now (λ xs. IsSessionLine (take_through 10 xs) got kept) → DropsThrough now then 10 → 0 < got.count → AnswersRead store next got kept text said → WroteSome is after text → ((whole : List ℕ) → IsSessionLine whole got kept → (told : List (ℕ × LineFault)) → Told told → Told2 (told ++ told_of (number + 1) (fault_at (strip_last 10 whole)))) → IfSome old (λ input. RanCut input Told2 was after)
+at_cut Told Told2 number None now then was is after store next ending said got kept text memory h read rest some answered wrote say = tt
+at_cut Told Told2 number (Some input) now then was is after store next ending said got kept text memory h read rest some answered wrote say =
+    let cut = cut_off Told Told2 number (Some input) now then was is after store next ending said got kept text h read rest some answered wrote say in
     record { output = cut.0; ending = worse ending said; script = cut.1; has_memory = memory; wrote = cut.2 }
 
-pub at_failed_write : (Told Told2 : List (ℕ × LineFault) → Type 0) (number : ℕ) (old now then left was is after : Option (List ℕ)) (store next : ModelStore) (ending said : Ending) (count : ℕ) (kept text : List ℕ) → worse ending said ≡ endings.OutOfMemory → IfSome old (IsUnder Told number now was is store ending)
-    → IfSome now (λ xs. IsReadLine (take_through 10 xs) count kept) → DropsThrough now then 10 → 0 < count → AnswersRead store next count kept text said → WroteSome is after text → ((whole : List ℕ) → IsReadLine whole count kept → (told : List (ℕ × LineFault)) → Told told → Told2 (told ++ told_of (number + 1) (fault_at (strip_last 10 whole)))) → IfSome old (λ input. RanOut input Told2 left was after)
-at_failed_write Told Told2 number None now then left was is after store next ending said count kept text memory h read rest some answered wrote say = tt
-at_failed_write Told Told2 number (Some input) now then left was is after store next ending said count kept text memory h read rest some answered wrote say =
-    let cut = cut_off Told Told2 number (Some input) now then was is after store next ending said count kept text h read rest some answered wrote say in
+pub at_failed_write : (Told Told2 : List (ℕ × LineFault) → Type 0) (number : ℕ) (old now then left was is after : Option (List ℕ)) (store next : ModelStore) (ending said : Ending) (got : LineRead) (kept text : List ℕ) → worse ending said ≡ endings.OutOfMemory → IfSome old (IsUnder Told number now was is store ending)
+    → IfSome now (λ xs. IsSessionLine (take_through 10 xs) got kept) → DropsThrough now then 10 → 0 < got.count → AnswersRead store next got kept text said → WroteSome is after text → ((whole : List ℕ) → IsSessionLine whole got kept → (told : List (ℕ × LineFault)) → Told told → Told2 (told ++ told_of (number + 1) (fault_at (strip_last 10 whole)))) → IfSome old (λ input. RanOut input Told2 left was after)
+at_failed_write Told Told2 number None now then left was is after store next ending said got kept text memory h read rest some answered wrote say = tt
+at_failed_write Told Told2 number (Some input) now then left was is after store next ending said got kept text memory h read rest some answered wrote say =
+    let cut = cut_off Told Told2 number (Some input) now then was is after store next ending said got kept text h read rest some answered wrote say in
     failed_write cut.0 (subst (λ (e : Ending). IsScriptBegun input Told2 cut.0 e) memory cut.1) cut.2
 
 -- ---- the empty store

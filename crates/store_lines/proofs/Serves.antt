@@ -16,6 +16,7 @@ use Rattle.store_lines.specs.declared.request.Request.{Request}
 use Rattle.store_lines.specs.declared.request.Filing.{Filing}
 use Rattle.store_lines.specs.declared.request.RawPart.{RawPart}
 use Rattle.store_lines.specs.declared.request.Request.TheVariants.{File, PutRaw}
+use Rattle.store_lines.specs.declared.bad_lines.LineFault.{LineFault}
 use Rattle.store_lines.specs.declared.session_line.Line.{Line}
 use Rattle.store_lines.specs.declared.session_line.Line.TheVariants as lines
 use Rattle.store_lines.specs.Access.{SessionState, Reach, at}
@@ -200,10 +201,10 @@ served_empty now Wrote session was Has line same has wrote =
     subst (λ (l : Line). IfSome now (λ following. ServesLineOver session was was Has true l following now Wrote)) (sym same)
     (line_served now Wrote session was Has lines.Empty (reported_as as_script skipped) (λ whole h. h) (λ text before none. empty_turn session text before none) has wrote)
 
-pub served_bad : (now : Option (List ℕ)) (Wrote : List ℕ → Type 0) (session : Session) (was : SessionState → Type 0) (Has : SessionTurn → Type 0) (line : Line) → line ≡ lines.Bad → Has (reported_as as_script bad) → Wrote (codes "bad\n") → IfSome now (λ following. ServesLineOver session was was Has true line following now Wrote)
-served_bad now Wrote session was Has line same has wrote =
+pub served_bad : (now : Option (List ℕ)) (Wrote : List ℕ → Type 0) (session : Session) (was : SessionState → Type 0) (Has : SessionTurn → Type 0) (line : Line) (fault : LineFault) → line ≡ lines.Bad fault → Has (reported_as as_script bad) → Wrote (codes "bad\n") → IfSome now (λ following. ServesLineOver session was was Has true line following now Wrote)
+served_bad now Wrote session was Has line fault same has wrote =
     subst (λ (l : Line). IfSome now (λ following. ServesLineOver session was was Has true l following now Wrote)) (sym same)
-    (line_served now Wrote session was Has lines.Bad (reported_as as_script bad) (λ whole h. h) (λ text before is. (refl, plays session.reach before before text bad None is.0 is.1 (refl, refl))) has wrote)
+    (line_served now Wrote session was Has (lines.Bad fault) (reported_as as_script bad) (λ whole h. h) (λ text before is. (refl, plays session.reach before before text bad None is.0 is.1 (refl, refl))) has wrote)
 
 pub served_no_memory : (now : Option (List ℕ)) (Wrote : List ℕ → Type 0) (session : Session) (was : SessionState → Type 0) (Has : SessionTurn → Type 0) (line : Line) → line ≡ lines.NoMemory → Has no_memory → Wrote (session_turn_text no_memory) → IfSome now (λ following. ServesLineOver session was was Has true line following now Wrote)
 served_no_memory now Wrote session was Has line same has wrote =

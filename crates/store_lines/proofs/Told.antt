@@ -1,6 +1,6 @@
 -- What is told of lines outside the grammar.
-use Rattle.std.proofs.Common.{◌≡◌, ◌∙◌, ◌+◌, ◌-◌, ◌<◌, ◌≤◌, ◌++◌, ℕ, zero, suc, Bool, true, false, List, [], ◌∷◌, Ok, Err, Some, None, Option, Result, ap, append-nil, append_assoc, arith, cond, inl, inr, length, refl, subst, sym, take, take-take, take_all}
-use Rattle.std.specs.Prelude.{◌==◌, OnOk, nat_le, option_map}
+use Rattle.std.proofs.Common.{◌≡◌, ◌∙◌, ◌+◌, ◌-◌, ◌<◌, ◌++◌, ℕ, zero, suc, Bool, true, false, List, [], ◌∷◌, Some, None, Option, ap, append-nil, append_assoc, arith, cond, inl, inr, length, refl, subst, sym, take, take-take, take_all}
+use Rattle.std.specs.Prelude.{◌==◌, nat_le, option_map}
 use Rattle.std.specs.List.{AllByRecursion, list_any}
 use Rattle.std.specs.Io.BufRead.{ends_with_byte, strip_last}
 use Rattle.std.specs.Str.{bytes_eq}
@@ -13,20 +13,13 @@ use Rattle.store_lines.specs.Running.{AreTold, told_from, told_of}
 use Rattle.store_lines.specs.declared.bad_lines.LineFault.{LineFault}
 use Rattle.store_lines.specs.declared.bad_lines.LineFault.TheVariants.{UnknownCommand}
 use Rattle.store_lines.specs.declared.request.Request.{Request}
-use Rattle.store_lines.specs.inner.Answers.{IsReadLine, TellsRead}
-use Rattle.store_lines.specs.inner.Requests.{read_as}
-use Rattle.store_lines.proofs.Lengths.{long_is_none}
-use Rattle.store_lines.proofs.LineOutcomes.{strip_shorter}
+use Rattle.edge.specs.declared.lines.LineRead.{LineRead}
+use Rattle.store_lines.specs.declared.session_line.Line.{Line}
+use Rattle.store_lines.specs.declared.session_line.Line.TheVariants as lines
+use Rattle.store_lines.specs.inner.Answers.{TellsRead}
+use Rattle.store_lines.specs.inner.Requests.{IsLineOf, IsScriptFound, IsSessionLine}
 
 -- ---- a line that was read
-
-pub request_read : (o : Option Request) (fault : LineFault) (request : Request) → Ok request ≡ read_as o fault → Some request ≡ o
-request_read (Some found) fault request is = cc
-request_read None fault request is = absurd (cc)
-
-pub fault_read : (o : Option Request) (fault found : LineFault) → Err found ≡ read_as o fault → (None ≡ o) × (found ≡ fault)
-fault_read None fault found is = (refl, cc)
-fault_read (Some request) fault found is = absurd (cc)
 
 pub good_line : (line : List ℕ) (request : Request) → Some request ≡ command_at line → fault_at line ≡ None
 good_line [] request is = refl
@@ -79,10 +72,10 @@ word_taken n word some = elim (cases_lt n (length word)) [
   | inr short ↦ ap word_fault (take_all n word short)
 ]
 
-fault_taken : (n : ℕ) (line : List ℕ) → 7 < n → line_fault (take n line) ≡ line_fault line
+pub fault_taken : (n : ℕ) (line : List ℕ) → 7 < n → line_fault (take n line) ≡ line_fault line
 fault_taken n line some = ap word_fault (first_taken n line) ∙ word_taken n (first_of line) some
 
-strip_taken : (n : ℕ) (whole : List ℕ) → n < length whole → take n (strip_last 10 whole) ≡ take n whole
+pub strip_taken : (n : ℕ) (whole : List ℕ) → n < length whole → take n (strip_last 10 whole) ≡ take n whole
 strip_taken n whole longer = go (ends_with_byte 10 whole)
   where
     go : (t : Bool) → take n (cond t (take (length whole - 1) whole) whole) ≡ take n whole
@@ -102,31 +95,24 @@ module _ {S : Type 0} (Tells : S → ℕ → LineFault → S → Type 0) where
   tells_on old mid new [] others h k = subst (λ (s : S). AreTold Tells s new others) h k
   tells_on old mid new (bad ∷ first) others h k = (h.0, h.1, tells_on h.0 mid new first others h.2 k)
 
-  -- of a line that is too long
-  pub long_told : (old new : S) (number count : ℕ) (kept : List ℕ) (found : LineFault) → 33554481 < count → found ≡ line_fault kept → Tells old number found new → TellsRead Tells old new number count kept
-  long_told old new number count kept found long is told = record {
-    tells = λ whole read.
+  pub read_told : (old new : S) (number : ℕ) (read : LineRead) (kept : List ℕ) (found : Line) (fault : LineFault) → found ≡ lines.Bad fault → IsScriptFound read kept found → Tells old number fault new → TellsRead Tells old new number read kept
+  read_told old new number read kept found fault same h told = record {
+    tells = λ whole r.
         let line = strip_last 10 whole in
-        let most : 33554480 < length line = omega (arith, long, read.0, strip_shorter whole) in
-        let longer : 33554481 < length whole = omega (arith, long, read.0) in
-        let same : line_fault kept ≡ line_fault line = ap line_fault (read.1 ∙ sym (strip_taken 33554481 whole longer)) ∙ fault_taken 33554481 line (omega arith) in
-        let fault : fault_at line ≡ Some found = bad_line line (omega (arith, most)) (sym (long_is_none line most)) ∙ ap (λ f. Some f) (sym same ∙ sym is) in
-        tells_one old new number found (fault_at line) fault told;
+        let is = subst (IsLineOf line) same (h.is whole r) in
+        tells_one old new number fault (fault_at line) (bad_line line is.0 is.1 ∙ ap (λ f. Some f) (sym is.2)) told;
   }
 
-  -- of any other
-  pub short_told : {A E : Type 0} (r : Result A E) (old new : S) (number count : ℕ) (kept line : List ℕ) → count ≤ 33554481 → line ≡ strip_last 10 kept → OnOk r (AreTold Tells old new (told_of number (fault_at line))) → OnOk r (TellsRead Tells old new number count kept)
-  short_told (Err e) old new number count kept line few is h = tt
-  short_told (Ok a) old new number count kept line few is h = record {
-    tells = λ whole read.
-        let all : kept ≡ whole = read.1 ∙ take_all 33554481 whole (omega (arith, few, read.0)) in
-        subst (λ (l : List ℕ). AreTold Tells old new (told_of number (fault_at l))) (is ∙ ap (strip_last 10) all) h;
-  }
+  pub nothing_told : (old : S) (number : ℕ) (read : LineRead) (kept : List ℕ) (found : Line) → found ≡ lines.Empty → IsScriptFound read kept found → TellsRead Tells old old number read kept
+  nothing_told old number read kept found same h = record { tells = λ whole r. let line = strip_last 10 whole in tells_none old number (fault_at line) (empty_line line (subst (IsLineOf line) same (h.is whole r))) }
+
+  pub request_untold : (old : S) (number : ℕ) (read : LineRead) (kept : List ℕ) (found : Line) (request : Request) → found ≡ lines.Has request → IsScriptFound read kept found → TellsRead Tells old old number read kept
+  request_untold old number read kept found request same h = record { tells = λ whole r. let line = strip_last 10 whole in tells_none old number (fault_at line) (good_line line request (subst (IsLineOf line) same (h.is whole r)).1) }
 
   -- of a line more
-  pub tells_more : (start old new : S) (number count : ℕ) (kept : List ℕ) → TellsRead Tells old new number count kept → (whole : List ℕ) → IsReadLine whole count kept → (told : List (ℕ × LineFault)) → AreTold Tells start old told
+  pub tells_more : (start old new : S) (number : ℕ) (read : LineRead) (kept : List ℕ) → TellsRead Tells old new number read kept → (whole : List ℕ) → IsSessionLine whole read kept → (told : List (ℕ × LineFault)) → AreTold Tells start old told
       → AreTold Tells start new (told ++ told_of number (fault_at (strip_last 10 whole)))
-  tells_more start old new number count kept h whole read told before = tells_on start old new told (told_of number (fault_at (strip_last 10 whole))) before (h.tells whole read)
+  tells_more start old new number read kept h whole r told before = tells_on start old new told (told_of number (fault_at (strip_last 10 whole))) before (h.tells whole r)
 
 pub told_more : (first : ℕ) (front : List (List ℕ)) (line : List ℕ) (number : ℕ) → first + length front ≡ number → told_from first (front ++ line ∷ []) ≡ told_from first front ++ told_of number (fault_at line)
 told_more first [] line number is = append-nil (told_of first (fault_at line)) ∙ ap (λ (n : ℕ). told_of n (fault_at line)) (omega (arith, is))

@@ -3,24 +3,21 @@
 ghost use Rattle.std.specs.Prelude.{◌≡◌, ◌<◌, IfErr, IfOk, OnErr, OnOk};
 ghost use Rattle.std.specs.Io.KnownBytes.{Appends};
 ghost use Rattle.edge.specs.Output.{WroteSome};
-ghost use Rattle.store_lines.specs.inner.Answers.{Answered, AnswersRead, AnswersRequest, IsTurnOf, PutsRead, TellsRead, is_good, reported_ending, reported_text};
-ghost use Rattle.store_lines.specs.Grammar.{fault_at};
-ghost use Rattle.store_lines.specs.Lines.{IsPutLine};
-ghost use Rattle.store_lines.specs.Running.{AreTold, told_of};
+ghost use Rattle.store_lines.specs.inner.Answers.{AnswersRead, AnswersRequest, LacksRead, TellsRead, is_good, reported_ending, reported_text};
 ghost use Rattle.store_lines.specs.Script.{fault_ending, reply_ending};
 ghost use Rattle.std.specs.Io.BufRead.{strip_last};
 
-use crate::bad_lines::{BadLines, line_fault};
+use crate::bad_lines::BadLines;
 use crate::ending::Ending;
 use crate::own::chosen;
-use crate::parsing::read_script_request;
 use crate::questions::write_answer;
 use crate::receiving::put_bytes;
 use crate::request::{EntryRange, Request};
+use crate::session_line::{Line, script_line};
 use crate::texts::{write_bad, write_journal, write_unmade};
 use b3_core::Work;
 use b3_forest::PartFault;
-use edge::Cause;
+use edge::{Cause, LineRead};
 use std::alloc::{AllocError, Global};
 use std::io::Write;
 use store_core::{Entry, Refusal, Reply, Store};
@@ -96,30 +93,33 @@ fn reply_ending(reply: &Result<Reply, Refusal>) -> Ending
     }
 }
 
-/// Answers the line with this number, of `count` bytes with its newline, of which at most as many are kept as a command's line can have.
-/// If it is outside the grammar, that is told. If an allocation fails for the contents of the line, the store is unchanged.
+/// Answers the line with this number, which was read like this. If it is outside the grammar, that is told. If an allocation fails for the
+/// contents of the line, the store is unchanged.
 pub(crate) fn answer_read<F: BadLines>(
     alloc: Global,
     store: &mut Store,
     number: u64,
     line: &[u8],
-    count: usize,
+    read: LineRead,
     faults: &mut F,
     work: &mut Work,
 ) -> Result<Answer, AllocError>
-    requires { 0 < count }
-    ensures answered { IfOk result (λ answer. AnswersRead store.old store.new count line.now (reported_text store.new.journal answer) (reported_ending answer)) }
-    ensures told { OnOk result (TellsRead F.tells faults.old faults.new number count line.now) }
+    ensures answered { IfOk result (λ answer. AnswersRead store.old store.new read line.now (reported_text store.new.journal answer) (reported_ending answer)) }
+    ensures told { OnOk result (TellsRead F.tells faults.old faults.new number read line.now) }
     ensures unchanged { OnErr result (store.new ≡ store.old) }
     ensures untold { OnErr result (faults.new ≡ faults.old) }
-    // An allocation can fail only for the bytes of a part.
-    ensures memory { OnErr result (PutsRead count line.now) }
+    // An allocation can fail only for a long line, or for the bytes of a part.
+    ensures memory { OnErr result (LacksRead read line.now) }
 {
-    if count > MAX_LINE {
-        faults.tell(number, line_fault(line));
-        return Ok(Answer::Bad);
+    match script_line(alloc, line, read) {
+        Line::Empty => Ok(Answer::Nothing),
+        Line::Bad(fault) => {
+            faults.tell(number, fault);
+            Ok(Answer::Bad)
+        }
+        Line::NoMemory => Err(AllocError),
+        Line::Has(request) => Ok(answer_request(alloc, store, request, work)),
     }
-    answer_line(alloc, store, number, without_end(line), faults, work)
 }
 
 /// A line without its newline, which may be missing on the last line.
@@ -129,33 +129,6 @@ pub(crate) fn without_end(line: &[u8]) -> &[u8]
     match line {
         [front @ .., b'\n'] => front,
         _ => line,
-    }
-}
-
-// Answers the line with this number, without its newline.
-fn answer_line<F: BadLines>(
-    alloc: Global,
-    store: &mut Store,
-    number: u64,
-    line: &[u8],
-    faults: &mut F,
-    work: &mut Work,
-) -> Result<Answer, AllocError>
-    ensures answered { IfOk result (λ answer. Answered (IsTurnOf store.old line.now store.new) (reported_text store.new.journal answer) (reported_ending answer)) }
-    ensures told { OnOk result (AreTold F.tells faults.old faults.new (told_of number (fault_at line.now))) }
-    ensures unchanged { OnErr result (store.new ≡ store.old) }
-    ensures untold { OnErr result (faults.new ≡ faults.old) }
-    ensures memory { OnErr result (IsPutLine line.now) }
-{
-    if line.is_empty() {
-        return Ok(Answer::Nothing);
-    }
-    match read_script_request(alloc, line)? {
-        Ok(request) => Ok(answer_request(alloc, store, request, work)),
-        Err(fault) => {
-            faults.tell(number, fault);
-            Ok(Answer::Bad)
-        }
     }
 }
 

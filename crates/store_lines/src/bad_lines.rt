@@ -41,6 +41,7 @@ pub trait BadLines {
 }
 
 /// It ignores what it is told.
+#[derive(Clone, Copy, Debug)]
 pub struct Untold;
 
 impl BadLines for Untold {

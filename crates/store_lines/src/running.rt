@@ -4,7 +4,8 @@ ghost use Rattle.std.specs.Prelude.{◌≡◌, ◌≢◌, ◌<◌, ◌⊎◌, If
 ghost use Rattle.std.specs.Io.BufRead.{DropsThrough, take_through};
 ghost use Rattle.std.specs.Io.KnownBytes.{Appends, IsAtEnd};
 ghost use Rattle.edge.specs.Output.{WroteSome};
-ghost use Rattle.store_lines.specs.inner.Answers.{IsReadLine, reported_ending, reported_text};
+ghost use Rattle.store_lines.specs.inner.Answers.{reported_ending, reported_text};
+ghost use Rattle.store_lines.specs.inner.Requests.{IsSessionLine};
 ghost use Rattle.store_lines.specs.Running.{AreTold, Ran, RanCut, RanOut, RanSome};
 ghost use Rattle.store_lines.specs.Script.{verdict_ending, widest_start, worse};
 ghost use Rattle.store_lines.specs.inner.Script.{ended_as, first_cause};
@@ -14,7 +15,7 @@ use crate::answer::{Answer, MAX_LINE, answer_read};
 use crate::bad_lines::BadLines;
 use crate::ending::Ending;
 use b3_core::Work;
-use edge::{Cause, Verdict, flush};
+use edge::{Cause, LineRead, Verdict, flush};
 use std::alloc::Global;
 use std::io::{BufRead, Write};
 use store_core::{Limits, Store};
@@ -67,22 +68,26 @@ fn answer_lines<R: BufRead, W: Write, F: BadLines>(
     let mut ending = Ending::Good;
     let mut line: Vec<u8> = Vec::new(alloc);
     for index in 0..u64::MAX {
-        let count = read_line(reader, &mut line, ending)?;
-        if count == 0 {
+        let read = read_line(reader, &mut line, ending)?;
+        if read.count == 0 {
             return ended_as(ending);
         }
         let number = index + 1;
-        let answer = answer_read(alloc, store, number, line.as_slice(), count, faults, work)?;
+        let answer = answer_read(alloc, store, number, line.as_slice(), read, faults, work)?;
         ending = worse(ending, answer.ending());
         report(writer, store, answer, ending)?;
     }
     Err(first_cause(ending, Cause::CannotRead))
 }
 
-// Reads the next line with its newline, keeping at most as many bytes as a command's line can have, and returns its length: 0 at the end of
-// the input. A failure is reported as the first cause, given how the answers so far end.
-fn read_line<R: BufRead>(reader: &mut R, line: &mut Vec<u8>, ending: Ending) -> Result<usize, Cause>
-    ensures read { IfOk result (λ count. IfSome (R.Read.remaining reader.old) (λ left. IsReadLine (take_through 10 left) count line.new.items)) }
+// Reads the next line with its newline, keeping at most as many bytes as a command's line can have; it has none at the end of the input. A
+// failure is reported as the first cause, given how the answers so far end.
+fn read_line<R: BufRead>(
+    reader: &mut R,
+    line: &mut Vec<u8>,
+    ending: Ending,
+) -> Result<LineRead, Cause>
+    ensures read { IfOk result (λ read. IfSome (R.Read.remaining reader.old) (λ left. IsSessionLine (take_through 10 left) read line.new.items)) }
     ensures rest { OnOk result (DropsThrough (R.Read.remaining reader.old) (R.Read.remaining reader.new) 10) }
     // An allocation failed for a line's bytes, or an earlier answer was `refused S14`.
     ensures left { result ≡ Err Cause.OutOfMemory → IfSome (R.Read.remaining reader.old) (λ left. (0 < length left) ⊎ (ending ≡ endings.OutOfMemory)) }
@@ -91,7 +96,7 @@ fn read_line<R: BufRead>(reader: &mut R, line: &mut Vec<u8>, ending: Ending) -> 
 {
     let read = edge::read_line(reader, line, MAX_LINE).map_err(|cause| first_cause(ending, cause))?;
     if read.is_kept {
-        Ok(read.count)
+        Ok(read)
     } else {
         Err(Cause::OutOfMemory)
     }

@@ -182,7 +182,7 @@ pub(crate) fn serve_line<A: Access, R: BufRead, W: Write>(
             alloc, access, own, reader, writer, request, work,
         ),
         Line::Empty => report(writer, Answer::Nothing)?,
-        Line::Bad => report(writer, Answer::Bad)?,
+        Line::Bad(_) => report(writer, Answer::Bad)?,
         Line::NoMemory => refuse(writer, Refusal::NoMemory)?,
     }
     Ok(true)

@@ -1,11 +1,9 @@
 -- What code says of a line that was read, and of the answer to it.
-use Rattle.std.specs.Prelude.{◌≡◌, ◌<◌, ℕ, Some, Bool, true, false, List, [], codes, length, take}
+use Rattle.std.specs.Prelude.{◌≡◌, ◌<◌, ℕ, Some, Bool, true, false, List, [], codes, length}
 use Rattle.std.specs.Io.BufRead.{strip_last}
-use Rattle.std.specs.Io.Iter.{u64_saturate}
 use Rattle.store_core.specs.Model.{ModelStore}
 use Rattle.store_journal.specs.declared.entry.Entry.{Entry}
 use Rattle.store_lines.specs.Grammar.{command_at, fault_at}
-use Rattle.store_lines.specs.Lines.{IsPutLine}
 use Rattle.store_lines.specs.Running.{AreTold, told_of}
 use Rattle.store_lines.specs.declared.bad_lines.LineFault.{LineFault}
 use Rattle.store_lines.specs.declared.request.Request.{Request}
@@ -14,6 +12,8 @@ use Rattle.store_lines.specs.Script.{Turn, fault_ending, range_entries, reply_en
 use Rattle.store_lines.specs.Texts.{entries_text, refused_text, unmade_text}
 use Rattle.store_lines.specs.Questions.{answer_text}
 use Rattle.store_lines.specs.Turns.{IsLinkedLine}
+use Rattle.edge.specs.declared.lines.LineRead.{LineRead}
+use Rattle.store_lines.specs.inner.Requests.{IsSessionLine, MayTakeMemory}
 use Rattle.store_lines.specs.declared.answer.Answer.{Answer}
 use Rattle.store_lines.specs.declared.answer.Answer.TheVariants as answers
 use Rattle.store_lines.specs.declared.ending.Ending.{Ending}
@@ -51,22 +51,18 @@ pub record Answered (Is : Turn → Type 0) (text : List ℕ) (ending : Ending) :
 abbrev pub IsTurnOf : ModelStore → List ℕ → ModelStore → Turn → Type 0
 IsTurnOf old line new turn = (before : SessionState) → alone_stands old before → (after : SessionState) × (alone_stands new after × IsLinkedLine alone_reach before line turn after)
 
--- the line has `count` bytes, with its newline, and these of them are kept
-abbrev pub IsReadLine : List ℕ → ℕ → List ℕ → Type 0
-IsReadLine whole count kept = (count ≡ u64_saturate (length whole)) × (kept ≡ take 33554481 whole)
-
 -- the answer to the line that was read
-pub record AnswersRead (old new : ModelStore) (count : ℕ) (kept text : List ℕ) (ending : Ending) : Type 0 where
-  pub answers : (whole : List ℕ) → IsReadLine whole count kept → Answered (IsTurnOf old (strip_last 10 whole) new) text ending
+pub record AnswersRead (old new : ModelStore) (read : LineRead) (kept text : List ℕ) (ending : Ending) : Type 0 where
+  pub answers : (whole : List ℕ) → IsSessionLine whole read kept → Answered (IsTurnOf old (strip_last 10 whole) new) text ending
 
 -- the same for a request, whichever line spelled it
 pub record AnswersRequest (old new : ModelStore) (request : Request) (text : List ℕ) (ending : Ending) : Type 0 where
   pub answers : (line : List ℕ) → 0 < length line → Some request ≡ command_at line → Answered (IsTurnOf old line new) text ending
 
 -- what is told of the line that was read
-pub record TellsRead {S : Type 0} (Tells : S → ℕ → LineFault → S → Type 0) (old new : S) (number count : ℕ) (kept : List ℕ) : Type 0 where
-  pub tells : (whole : List ℕ) → IsReadLine whole count kept → AreTold Tells old new (told_of number (fault_at (strip_last 10 whole)))
+pub record TellsRead {S : Type 0} (Tells : S → ℕ → LineFault → S → Type 0) (old new : S) (number : ℕ) (read : LineRead) (kept : List ℕ) : Type 0 where
+  pub tells : (whole : List ℕ) → IsSessionLine whole read kept → AreTold Tells old new (told_of number (fault_at (strip_last 10 whole)))
 
--- the line that was read starts so
-pub record PutsRead (count : ℕ) (kept : List ℕ) : Type 0 where
-  pub puts : (whole : List ℕ) → IsReadLine whole count kept → IsPutLine (strip_last 10 whole)
+-- reading it may allocate
+pub record LacksRead (read : LineRead) (kept : List ℕ) : Type 0 where
+  pub lacks : (whole : List ℕ) → IsSessionLine whole read kept → MayTakeMemory (strip_last 10 whole)

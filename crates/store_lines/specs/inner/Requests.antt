@@ -7,7 +7,7 @@ use Rattle.store_lines.specs.declared.bad_lines.LineFault.{LineFault}
 use Rattle.store_lines.specs.declared.request.Request.{Request}
 use Rattle.store_lines.specs.declared.request.Request.TheVariants.{File, PutRaw}
 use Rattle.store_lines.specs.Lines.{IsPutLine, max_request}
-use Rattle.store_lines.specs.Grammar.{command_at}
+use Rattle.store_lines.specs.Grammar.{command_at, line_fault}
 use Rattle.store_lines.specs.Requests.{request_in}
 use Rattle.store_lines.specs.declared.session_line.Line.{Line}
 use Rattle.store_lines.specs.declared.session_line.Line.TheVariants as lines
@@ -32,7 +32,7 @@ MayTakeMemory line = (max_request ≤ length line) ⊎ IsPutLine line
 -- a line of a script, without its newline, is that
 abbrev pub IsLineOf : List ℕ → Line → Type 0
 IsLineOf line lines.Empty = length line ≡ 0
-IsLineOf line lines.Bad = (0 < length line) × (None ≡ command_at line)
+IsLineOf line (lines.Bad fault) = (0 < length line) × (None ≡ command_at line) × (fault ≡ line_fault line)
 IsLineOf line lines.NoMemory = MayTakeMemory line
 IsLineOf line (lines.Has request) = (0 < length line) × (Some request ≡ command_at line)
 

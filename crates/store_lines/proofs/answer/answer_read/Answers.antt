@@ -1,30 +1,25 @@
-use Rattle.std.proofs.Common.{rules, arith, ◌≡◌, ◌≤◌}
-use Rattle.std.specs.Io.BufRead.{strip_last}
-use Rattle.store_lines.proofs.Told.{long_told, short_told}
-use Rattle.store_lines.proofs.LineOutcomes.{long_line, short_line, short_put}
+use Rattle.std.proofs.Common.{rules, refl}
+use Rattle.store_lines.proofs.LineOutcomes.{read_bad, read_lacks, read_nothing, read_request}
+use Rattle.store_lines.proofs.Told.{nothing_told, read_told, request_untold}
 use Rattle.store_lines.proofs.answer.answer_read.Goals as goal
 
-pub returns-then-count-gt-MAX_LINE-clause-answered : goal.returns-then-count-gt-MAX_LINE-clause-answered
-returns-then-count-gt-MAX_LINE-clause-answered g c = long_line c.args.store.now c.args.count c.args.line.now (omega arith)
+pub returns-in-Empty-clause-answered : goal.returns-in-Empty-clause-answered
+returns-in-Empty-clause-answered g c = read_nothing c.args.store.now c.args.read c.args.line.now _ _ c.script_line.result (search rules) c.script_line.ensures refl refl
 
-pub returns-clause-answered : goal.returns-clause-answered
-returns-clause-answered g c =
-    let few : c.args.count ≤ 33554481 = omega arith in
-    let line : c.without_end.result.now ≡ strip_last 10 c.args.line.now = search rules in
-    short_line c.answer_line.result c.args.store.now c.answer_line.new.store c.args.count c.args.line.now c.without_end.result.now few line c.answer_line.ensures.answered
+pub returns-in-Empty-clause-told : goal.returns-in-Empty-clause-told
+returns-in-Empty-clause-told g c = nothing_told g.F.BadLines.tells c.args.faults.now c.args.number c.args.read c.args.line.now c.script_line.result (search rules) c.script_line.ensures
 
-pub returns-clause-memory : goal.returns-clause-memory
-returns-clause-memory g c =
-    let few : c.args.count ≤ 33554481 = omega arith in
-    let line : c.without_end.result.now ≡ strip_last 10 c.args.line.now = search rules in
-    short_put c.answer_line.result c.args.count c.args.line.now c.without_end.result.now few line c.answer_line.ensures.memory
+pub returns-in-Bad-clause-answered : goal.returns-in-Bad-clause-answered
+returns-in-Bad-clause-answered g c = read_bad c.args.store.now c.args.read c.args.line.now _ _ c.script_line.result c.in-Bad.fault (search rules) c.script_line.ensures (refl, refl)
 
-pub returns-then-count-gt-MAX_LINE-clause-told : goal.returns-then-count-gt-MAX_LINE-clause-told
-returns-then-count-gt-MAX_LINE-clause-told g c =
-    long_told g.F.BadLines.tells c.args.faults.now c.tell.new.self c.args.number c.args.count c.args.line.now c.line_fault.result (omega arith) c.line_fault.ensures c.tell.ensures
+pub returns-in-Bad-clause-told : goal.returns-in-Bad-clause-told
+returns-in-Bad-clause-told g c = read_told g.F.BadLines.tells c.args.faults.now c.tell.new.self c.args.number c.args.read c.args.line.now c.script_line.result c.in-Bad.fault (search rules) c.script_line.ensures c.tell.ensures
 
-pub returns-clause-told : goal.returns-clause-told
-returns-clause-told g c =
-    let few : c.args.count ≤ 33554481 = omega arith in
-    let line : c.without_end.result.now ≡ strip_last 10 c.args.line.now = search rules in
-    short_told g.F.BadLines.tells c.answer_line.result c.args.faults.now c.answer_line.new.faults c.args.number c.args.count c.args.line.now c.without_end.result.now few line c.answer_line.ensures.told
+pub returns-in-NoMemory-clause-memory : goal.returns-in-NoMemory-clause-memory
+returns-in-NoMemory-clause-memory g c = read_lacks c.args.read c.args.line.now c.script_line.result (search rules) c.script_line.ensures
+
+pub returns-in-Has-clause-answered : goal.returns-in-Has-clause-answered
+returns-in-Has-clause-answered g c = read_request c.args.store.now c.answer_request.new.store c.args.read c.args.line.now _ _ c.script_line.result c.in-Has.request (search rules) c.script_line.ensures c.answer_request.ensures
+
+pub returns-in-Has-clause-told : goal.returns-in-Has-clause-told
+returns-in-Has-clause-told g c = request_untold g.F.BadLines.tells c.args.faults.now c.args.number c.args.read c.args.line.now c.script_line.result c.in-Has.request (search rules) c.script_line.ensures

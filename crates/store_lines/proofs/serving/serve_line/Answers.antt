@@ -34,10 +34,10 @@ returns-in_err-report-in-Empty-clause-failed g c = λ failed.
 
 pub returns-in_ok-report-in-Bad-clause-served : goal.returns-in_ok-report-in-Bad-clause-served
 returns-in_ok-report-in-Bad-clause-served g c =
-    let same : c.args.line ≡ lines.Bad = search rules in
-    served_bad (g.R.Read.remaining c.args.reader.now) (Appends (g.W.Write.contents c.args.writer.now) (g.W.Write.contents c.report-in-Bad.new.writer)) (session_of g.A.Access.reach c.args.own.now.at_end) (g.A.Access.stands c.args.access.now) (Notes c.args.own.now c.args.own.now) c.args.line same refl c.in_ok-report-in-Bad.ensures.wrote
+    let same : c.args.line ≡ lines.Bad c.in-Bad.field-0 = search rules in
+    served_bad (g.R.Read.remaining c.args.reader.now) (Appends (g.W.Write.contents c.args.writer.now) (g.W.Write.contents c.report-in-Bad.new.writer)) (session_of g.A.Access.reach c.args.own.now.at_end) (g.A.Access.stands c.args.access.now) (Notes c.args.own.now c.args.own.now) c.args.line c.in-Bad.field-0 same refl c.in_ok-report-in-Bad.ensures.wrote
 
 pub returns-in_err-report-in-Bad-clause-failed : goal.returns-in_err-report-in-Bad-clause-failed
 returns-in_err-report-in-Bad-clause-failed g c = λ failed.
-    let same : c.args.line ≡ lines.Bad = search rules in
-    served_bad (g.R.Read.remaining c.args.reader.now) (WroteSome (g.W.Write.contents c.args.writer.now) (g.W.Write.contents c.report-in-Bad.new.writer)) (session_of g.A.Access.reach c.args.own.now.at_end) (g.A.Access.stands c.args.access.now) (Notes c.args.own.now c.args.own.now) c.args.line same refl c.in_err-report-in-Bad.ensures.failed
+    let same : c.args.line ≡ lines.Bad c.in-Bad.field-0 = search rules in
+    served_bad (g.R.Read.remaining c.args.reader.now) (WroteSome (g.W.Write.contents c.args.writer.now) (g.W.Write.contents c.report-in-Bad.new.writer)) (session_of g.A.Access.reach c.args.own.now.at_end) (g.A.Access.stands c.args.access.now) (Notes c.args.own.now c.args.own.now) c.args.line c.in-Bad.field-0 same refl c.in_err-report-in-Bad.ensures.failed

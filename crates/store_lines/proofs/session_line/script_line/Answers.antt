@@ -11,7 +11,7 @@ returns-then-not-read c =
 pub returns-then-read-gt-MAX_LINE : goal.returns-then-read-gt-MAX_LINE
 returns-then-read-gt-MAX_LINE c =
     let long : 33554481 < c.args.read.count = omega arith in
-    long_line c.args.read c.args.line.now long
+    long_line c.args.read c.args.line.now c.line_fault.result (search rules) long c.line_fault.ensures
 
 pub returns : goal.returns
 returns c =
