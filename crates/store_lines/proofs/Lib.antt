@@ -5,6 +5,7 @@ pub mod Read
 pub mod Rows
 pub mod LineOutcomes
 mod Told
+mod Words
 pub mod Lengths
 mod Frames
 mod Ranges

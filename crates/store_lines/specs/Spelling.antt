@@ -8,7 +8,8 @@ use Rattle.store_core.specs.declared.command.Command.TheVariants as commands
 use Rattle.store_core.specs.declared.store.questions.Question.{Question}
 use Rattle.store_core.specs.declared.store.questions.Question.TheVariants as questions
 use Rattle.store_lines.specs.Lines.{max_line}
-use Rattle.store_lines.specs.Grammar.{command_at, max_digits, max_pattern, pattern_of, whole_journal}
+use Rattle.store_lines.specs.Grammar.{command_at, line_fault, max_digits, max_pattern, pattern_of, whole_journal}
+use Rattle.store_lines.specs.declared.bad_lines.LineFault.TheVariants.{BadFields}
 use Rattle.store_lines.specs.declared.request.Request.{Request}
 use Rattle.store_lines.specs.declared.request.Request.TheVariants.{Asks, Does, Entries, Put}
 
@@ -69,3 +70,7 @@ PatternIs = (offset len : ℕ) → (length (pattern_of offset len) ≡ len) × (
 -- a longer line is not a command
 abbrev pub LongIsNone : Type 0
 LongIsNone = (line : List ℕ) → max_line < length line → command_at line ≡ None
+
+-- the first word of a line with a command is one of the words
+abbrev pub WordsAreKnown : Type 0
+WordsAreKnown = (line : List ℕ) (command : Request) → command_at line ≡ Some command → line_fault line ≡ BadFields

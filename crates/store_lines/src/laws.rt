@@ -2,7 +2,7 @@
 
 ghost use Rattle.store_lines.specs.Owning.{OwnWereBegun};
 ghost use Rattle.store_lines.specs.Turns.{FramesAlike, StepsAreRun};
-ghost use Rattle.store_lines.specs.Spelling.{LongIsNone, PatternIs, ReadCommandIsSpelled, SpelledCommandIsRead};
+ghost use Rattle.store_lines.specs.Spelling.{LongIsNone, PatternIs, ReadCommandIsSpelled, SpelledCommandIsRead, WordsAreKnown};
 
 use crate::access::Access;
 
@@ -12,6 +12,7 @@ pub fn script_laws()
     ensures only { SpelledCommandIsRead }
     ensures pattern { PatternIs }
     ensures long { LongIsNone }
+    ensures words { WordsAreKnown }
 {}
 
 /// Facts about the definitions that the contracts of `serve` and `serve_over` use, over any access. The call does nothing.

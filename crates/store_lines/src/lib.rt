@@ -1,8 +1,8 @@
 //! The lines of a store, and their answers: of scripts, and of sessions for programs.
 //!
-//! `run` reads a script line by line, executes each line on a new store with the widest limits, and writes the answers. It uses the store
-//! only through its commands and questions. `serve` answers a session's lines, which are those of a script and some that are followed by
-//! raw bytes.
+//! `run` reads a script line by line, executes each line on a new store with the widest limits, and writes the answers. It tells its caller
+//! of each line that is outside the grammar, and why (`LineFault`). It uses the store only through its commands and questions. `serve`
+//! answers a session's lines, which are those of a script and some that are followed by raw bytes.
 //!
 //! docs/PROTOCOL.md has the lines of a script and those that only a session has, each with its answer. They are read as
 //! `specs/Grammar.antt`, `specs/Requests.antt` and `specs/Questions.antt` define; answers have the texts of `specs/Texts.antt`,

@@ -1,5 +1,4 @@
 use Rattle.std.proofs.Common.{rules, refl}
-use Rattle.store_lines.specs.declared.request.Request.TheVariants.{Asks, Does, Entries, Put}
 use Rattle.store_lines.proofs.LineOutcomes.{request_asked, request_done, request_listed, request_put}
 use Rattle.store_lines.proofs.answer.answer_request.Goals as goal
 

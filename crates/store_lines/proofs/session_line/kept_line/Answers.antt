@@ -1,4 +1,4 @@
-use Rattle.std.proofs.Common.{rules, ◌<◌, Err, Ok, length}
+use Rattle.std.proofs.Common.{rules, ◌<◌, length}
 use Rattle.store_lines.proofs.Lines.{has_fault, has_request}
 use Rattle.store_lines.proofs.session_line.kept_line.Goals as goal
 
