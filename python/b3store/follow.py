@@ -57,13 +57,14 @@ def follow_to_server(source: Client, path: str, journal: Journal) -> None:
         while True:
             with tempfile.SpooledTemporaryFile(MAX_IN_MEMORY) as lines:
                 following = source._redo_to(lines.write, at, MAX_REDONE)  # type: ignore[arg-type]
+                # before the copy has any of it
+                journal.note(source)
                 target.run_lines(lines)
             if following == at and not is_told:
                 counts, is_told = target.counts(), True
                 print(f"b3store.follow: {path} has {count_text(counts.objects, 'object')} and {count_text(counts.tenants, 'tenant')}", flush=True)
             if following == at:
                 time.sleep(SECONDS_BETWEEN_LOOKS)
-                journal.note(source)
             at = following
 
 

@@ -96,7 +96,7 @@ def reserves_no_more_than_it_reads():
             with subprocess.Popen(command, stdin=subprocess.PIPE, stdout=subprocess.PIPE, env=environment) as put:
                 put.stdin.write(content[: 8 * PART_LEN])
                 put.stdin.flush()
-                check((wait_until(lambda: bool(store.uploads(tenant)), 1), reserved > 0), (store.usage(tenant).reserved, reserved), (os.listdir(place), []))
+                check((wait_until(lambda: bool(store.uploads(tenant)), SECONDS if reserved else 1), reserved > 0), (store.usage(tenant).reserved, reserved), (os.listdir(place), []))
                 put.stdin.write(content[8 * PART_LEN :])
                 put.stdin.close()
                 address = put.stdout.read().decode()[:64]

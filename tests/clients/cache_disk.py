@@ -18,8 +18,6 @@ from b3store import Store
 from b3store.redo_log import RedoLog
 
 KILLS, CLIENTS, KEYS = 12, 4, 20
-SECONDS_OF_SYNC = 3
-"""What was answered so long before a kill is there after it, on a machine that is busy; the cache syncs each second."""
 
 
 def contents(folder):
@@ -80,8 +78,8 @@ def content_of(number):
     return b"%d " % number + random.Random(number).randbytes(number * 7919 % 30000)
 
 
-def faults_of(cache, client, end):
-    """What the keys of a client have that they may not have after a kill at a time."""
+def faults_of(cache, client, synced):
+    """What the keys of a client have that they may not have after a kill, before which all was synced that was answered up to some time."""
     found = []
     for key, changes in client.done.items():
         content = cache.get(key)
@@ -89,8 +87,8 @@ def faults_of(cache, client, end):
         if number and content != content_of(number):
             found.append(f"{key} has content that nobody stored")
         numbers = [change[0] for change in changes]
-        # a DELETE that was answered is permanent, and so is what was answered some time ago
-        old = [at for at, (changed, answered) in enumerate(changes) if answered and (not changed or answered < end - SECONDS_OF_SYNC)]
+        # a DELETE that was answered is permanent
+        old = [at for at, (changed, answered) in enumerate(changes) if answered and (not changed or answered < synced)]
         allowed = numbers[max(old, default=0) :] + ([0] if not old else [])
         # of what was changed since then some may be lost, but nothing older is there again
         if number not in allowed and not (number == 0 and any(changed == 0 for changed in allowed)):
@@ -99,7 +97,7 @@ def faults_of(cache, client, end):
 
 
 def kills():
-    """Killed at any moment while clients change it, and while its content moves, it begins with all that was answered some seconds before."""
+    """Killed at any moment while clients change it, and while its content moves, it begins with all that was answered before it was synced, as for a DELETE."""
     rng = random.Random(5)
     with tempfile.TemporaryDirectory() as place:
         folder, moves, number = os.path.join(place, "cache"), 0, 0
@@ -108,17 +106,19 @@ def kills():
                 clients = [Client(cache.port, f"{life}.{at}", number + 1000000 * at) for at in range(CLIENTS)]
                 for client in clients:
                     client.start()
-                time.sleep(0.3 + rng.random() * 4)
-                with contextlib.suppress(OSError, http.client.HTTPException):
-                    moves += cache.metrics()["renewals_total"]
-                end = time.monotonic()
+                time.sleep(0.3 + rng.random() * 2)
+                check((cache.put("/synced", b""), 201))
+                synced = time.monotonic()
+                check((cache.ask("DELETE", "/synced")[0], 204))
+                time.sleep(rng.random() * 2)
+                moves += cache.metrics()["renewals_total"]
                 cache.stop(signal.SIGKILL)
                 for client in clients:
                     client.join(SECONDS)
                 number = max(client.number for client in clients)
             with Cache(folder) as cache:
                 for client in clients:
-                    check((faults_of(cache, client, end), []))
+                    check((faults_of(cache, client, synced), []))
                 check(([line for line in cache.reports() if "within a line" not in line], []))
                 check((cache.stop()[0], 0))
         check((moves > 0, True))
@@ -219,17 +219,32 @@ def other_folders():
             check((run.returncode, 2), (words[1].encode() in run.stderr.splitlines()[-1], True))
 
 
+WAITING = """
+import os, time
+restore = cache_content.RedoLog.restore
+def wait_and_restore(log, store, tick):
+    while not os.path.exists({!r}):
+        time.sleep(0.1)
+        tick()
+    return restore(log, store, tick)
+cache_content.RedoLog.restore = wait_and_restore
+"""
+"""Lets a cache load its folder once there is a file."""
+
+
 def answers_while_it_loads():
     """Until all is loaded, keys are misses and nothing can be changed. A signal ends it at once then, and changes nothing."""
-    slow = "restore = cache_content.RedoLog.restore\ndef slowly(log, store, tick):\n    import time\n    for _ in range(30):\n        time.sleep(0.1); tick()\n    return restore(log, store, tick)\ncache_content.RedoLog.restore = slowly"
     with tempfile.TemporaryDirectory() as place:
-        folder, _ = filled_folder(place)
-        before = contents(folder)
-        with Cache(folder, server=altered(before=slow), loads=False) as cache:
-            check((cache.get("/a"), 404), (cache.put("/a", b"x"), 503), (cache.ask("DELETE", "/a")[0], 503), (cache.ask("GET", "/healthz")[0], 503), (cache.stop()[0], 0))
-        check((contents(folder) == before, True))
-        with Cache(folder, server=altered(before=slow)) as cache:
-            check((cache.get("/a"), b"a" * 5000), (cache.ask("GET", "/healthz")[0], 200), (cache.stop()[0], 0))
+        (folder, _), going = filled_folder(place), os.path.join(place, "going")
+        before, server = contents(folder), altered(before=WAITING.format(going))
+        for is_ended in True, False:
+            with Cache(folder, server=server, loads=False) as cache:
+                check((cache.get("/a"), 404), (cache.put("/a", b"x"), 503), (cache.ask("DELETE", "/a")[0], 503), (cache.ask("GET", "/healthz")[0], 503))
+                if is_ended:
+                    check((cache.stop()[0], 0), (contents(folder) == before, True))
+                    continue
+                os.mkdir(going)
+                check((wait_until(lambda: cache.ask("GET", "/healthz")[0] == 200), True), (cache.get("/a"), b"a" * 5000), (cache.stop()[0], 0))
 
 
 def signals():
@@ -243,7 +258,7 @@ def signals():
                 check(((number, cache.stop(number)), (number, (0, b""))), (cache.reports(), []))
                 client.join(SECONDS)
             with Cache(cache.folder) as again:
-                check((faults_of(again, client, time.monotonic() + SECONDS_OF_SYNC), []))
+                check((faults_of(again, client, time.monotonic()), []))
     with tempfile.TemporaryDirectory() as place:
         with Cache(os.path.join(place, "cache"), preexec_fn=lambda: signal.signal(signal.SIGHUP, signal.SIG_IGN)) as cache:
             cache.process.send_signal(signal.SIGHUP)

@@ -125,8 +125,11 @@ def reads_of_what_goes():
 
 
 def begin_to_put(cache, length, sent):
+    """A connection on which a body arrives, since the cache has asked for it."""
     connection = socket.create_connection(("127.0.0.1", cache.port), timeout=SECONDS)
-    connection.sendall(b"PUT /slow HTTP/1.1\r\nContent-Length: %d\r\n\r\n" % length + sent)
+    connection.sendall(b"PUT /slow HTTP/1.1\r\nExpect: 100-continue\r\nContent-Length: %d\r\n\r\n" % length)
+    check((status_of(connection.recv(4096)), 100))
+    connection.sendall(sent)
     return connection
 
 
@@ -201,7 +204,7 @@ def hosts():
 
 def slow_clients():
     """A request that arrives too slowly is ended, in its head or in its body; one that takes as long, and has more bytes, is not. So is a client that doesn't read."""
-    with new_cache(server=altered(cache__SECONDS_OF_REQUEST=1, cache__MIN_RATE=1 << 18, cache__SECONDS_TO_LEAVE=0.5)) as cache:
+    with new_cache(server=altered(cache__SECONDS_OF_REQUEST=2, cache__MIN_RATE=1 << 18, cache__SECONDS_TO_LEAVE=0.5)) as cache:
         def sent(*pieces):
             start = time.monotonic()
             with socket.create_connection(("127.0.0.1", cache.port), timeout=SECONDS) as connection:
@@ -214,9 +217,9 @@ def slow_clients():
 
         head = b"PUT /k HTTP/1.1\r\nContent-Length: %d\r\n\r\n"
         check((cache.put("/large", os.urandom(60000000)), 201), (sent(head % 2000000, *[bytes(200000)] * 10)[0], 201))
-        for name, pieces in ("head", [b"GET /k HTTP/1.1\r\n", *[b"A: b\r\n"] * 60]), ("body", [head % 1000, *[bytes(10)] * 60]), ("idle", [b""]):
+        for name, pieces in ("head", [b"GET /k HTTP/1.1\r\n", *[b"A: b\r\n"] * 300]), ("body", [head % 9000, *[bytes(10)] * 300]), ("idle", [b""]):
             status, seconds = sent(*pieces)
-            check(((name, status), (name, None if name == "idle" else status)), ((name, seconds < 8), (name, True)))
+            check(((name, status), (name, None if name == "idle" else status)), ((name, seconds < SECONDS / 2), (name, True)))
         check((cache.get("/k") == bytes(2000000), True))
         connection, read = begin_to_read(cache, "/large")
         with connection:
@@ -230,13 +233,11 @@ def many_connections():
     """If there are too many, the one that has waited longest for a request is closed; one on which a body arrives isn't."""
     with new_cache(server=altered(cache__MAX_CONNECTIONS=8)) as cache:
         slow = begin_to_put(cache, 10, b"abc")
-        time.sleep(0.3)
         idle = [socket.create_connection(("127.0.0.1", cache.port), timeout=SECONDS) for _ in range(30)]
         check((cache.put("/k", b"abc"), 201), (idle[0].recv(1), b""))
         slow.sendall(b"defghij")
         check((status_of(slow.recv(4096)), 201), (cache.get("/slow"), b"abcdefghij"))
         busy = [begin_to_put(cache, 10, b"abc") for _ in range(8)]
-        time.sleep(0.3)
         check((cache.raw(b"GET /k HTTP/1.1\r\n\r\n"), b""))
         for connection in [slow, *idle, *busy]:
             connection.close()

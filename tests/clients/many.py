@@ -10,7 +10,6 @@ import socket
 import subprocess
 import sys
 import tempfile
-import time
 
 from servers import Cache
 from shared import SECONDS, TOP, check, wait_until
@@ -30,11 +29,16 @@ class Nginx:
         if not wait_until(lambda: self.ask("GET", "/healthz")[0] == 200):
             raise ValueError("nginx doesn't start")
 
+    def workers(self):
+        with open(f"/proc/{self.process.pid}/task/{self.process.pid}/children", encoding="ascii") as file:
+            return {*file.read().split()}
+
     def change(self, ports):
-        """Reads the configuration for other ports."""
+        """Reads the configuration for other ports, and waits until no process has the one before."""
         front_words(self.place, self.port, ports)
+        before = self.workers()
         self.process.send_signal(signal.SIGHUP)
-        time.sleep(1)
+        check((wait_until(lambda: not before & self.workers()), True))
 
     def ask(self, method, key, body=None):
         connection = http.client.HTTPConnection("127.0.0.1", self.port, timeout=SECONDS)

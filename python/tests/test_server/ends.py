@@ -59,7 +59,8 @@ def busy(program: str) -> None:
                 check((other.ask("tenants"), b"tenants 0\n"))
                 with server.client() as late:
                     check((late.remaining(), b"busy\n"))
-            check((wait_until(lambda: server.sessions() == 1), True))
+            # its turn ends a little after its session
+            check((wait_until(lambda: server.connections() == 1), True))
         check((first.ends(), b""), (server.end(), CLEAN))
     with Running(program, "--sessions", "1", "--wait", "60") as server, server.client() as first:
         first.ask("tenant 5000")

@@ -5,11 +5,9 @@ import signal
 import subprocess
 import sys
 import tempfile
-import time
 from typing import Any, Iterator, List, Optional
 
 from judging import check, wait_until
-from lines import SHORTLY
 from running import CLEAN, PACKAGE, SECONDS, Client, Running, environment
 from saving import append_to, log_of, save_folder, state_at, state_of
 
@@ -137,7 +135,6 @@ def copies_that_are_refused(program: str) -> None:
             client.file(b"kept")
             check((_same(client, copied), True))
             state = state_of(client)
-            time.sleep(SHORTLY)
             first.signal(signal.SIGKILL)
             first.status()
             with _again(program, first.path), Client(first.path) as again:

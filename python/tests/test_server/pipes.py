@@ -76,7 +76,7 @@ def passed_pipes(program: str) -> None:
 
 def pipes_that_nobody_takes(program: str) -> None:
     """A client that asks for pipes and leaves, or half asks, or that reads the line without the pipes: its turn is free at once."""
-    with Running(program, "--sessions", "1", "--wait", "20") as server:
+    with Running(program, "--sessions", "1", "--wait", "60") as server:
         start = time.monotonic()
         for text in (b"pipes\n", b"pip", b"", b"pipes\n" + b"begin 0 3\n" * 1000):
             for _ in range(20):
@@ -108,10 +108,10 @@ def pipes_that_are_kept(program: str) -> None:
             check((len(other.uploads()), 1))
             child.kill()
             child.wait()
-            check((wait_until(lambda: other.uploads() == []), True))
+            check((wait_until(lambda: other.uploads() == []), True), (wait_until(lambda: server.connections() == 1), True))
             with Client(server.path) as late:
                 check((late.ask("tenants"), b"tenants 1\n0 0 0 5000\n"), (late.ends(), b""))
-            check((other.ends(), b""))
+            check((other.ends(), b""), (wait_until(lambda: server.connections() == 0), True))
         with contextlib.closing(Piped(server.path)) as again:
             Client.close(again)
             server.signal()

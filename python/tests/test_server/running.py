@@ -151,9 +151,13 @@ class Running:
         return sum(name.endswith(".in") for folder in os.listdir(self.temporary) for name in os.listdir(os.path.join(self.temporary, folder)))
 
     def connections(self) -> int:
-        """How many connections the server has accepted. It has three other sockets."""
-        at = f"/proc/{self.process.pid}/fd"
-        return sum(os.readlink(os.path.join(at, name)).startswith("socket:") for name in os.listdir(at)) - 3
+        """How many connections the server has: those that wait, and those whose turn hasn't ended. It has three other sockets."""
+        count, at = -3, f"/proc/{self.process.pid}/fd"
+        for name in os.listdir(at):
+            # one may be closed meanwhile
+            with contextlib.suppress(FileNotFoundError):
+                count += os.readlink(os.path.join(at, name)).startswith("socket:")
+        return count
 
     def reported(self) -> str:
         """What the server has written to standard error."""
