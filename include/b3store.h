@@ -44,65 +44,67 @@
 extern "C" {
 #endif
 
-/* ---- What calls return, in `answer`, and store in `why` */
+/* ---- What calls return, in `answer`, and store in `why`
+ *
+ * b3store_text_of says what each means, and docs/PROTOCOL.md what to do. */
 
 #define B3STORE_DONE 0
-#define B3STORE_NO_TENANT 1        /* S1: no tenant has this number. */
-#define B3STORE_TENANTS_FULL 2     /* S2: the number of tenants has reached its limit. */
-#define B3STORE_LIMIT_TOO_LARGE 3  /* S3: a tenant's limit exceeds 2^46 bytes. */
-#define B3STORE_BELOW_USE 4        /* S4: the new limit is below the tenant's use and reservation; why->number is their sum. */
-#define B3STORE_TOO_LONG 5         /* S5: the length exceeds 2^44 bytes, or what the upload may have. */
-#define B3STORE_OVER_QUOTA 6       /* S6: the tenant has too few bytes left; why->number is how many. */
-#define B3STORE_NO_UPLOAD 7        /* S7: no open upload has this number. */
-#define B3STORE_WRONG_PLAN 8       /* S8: the part was prepared for another length or kind of upload. */
-#define B3STORE_OVERLAP 9          /* S9: why->number is the lowest offset of the part that the upload holds already. */
-#define B3STORE_INCOMPLETE 10      /* S10: why->number is the lowest offset that the upload doesn't hold. */
-#define B3STORE_WRONG_ADDRESS 11   /* S11: the content has another address, why->address. */
-#define B3STORE_NOT_HELD 12        /* S12: the tenant holds no object at this address. */
-#define B3STORE_JOURNAL_FULL 13    /* S13: the number of journal entries has reached its limit. */
-#define B3STORE_NO_MEMORY 14       /* S14: out of memory. */
-#define B3STORE_PAST_LAST 15       /* S15: the end that is given or implied conflicts with what the upload holds; why->number is its end. */
-#define B3STORE_NOT_FIXED 16       /* S16: the upload's length isn't fixed yet. */
-#define B3STORE_PLAN_TOO_LONG 33   /* F1: an upload of more than 2^44 bytes. */
-#define B3STORE_EMPTY_PART 34      /* F2: no bytes. */
-#define B3STORE_OFF_ALIGN 35       /* F3: the offset isn't a multiple of 1024. */
-#define B3STORE_PAST_END 36        /* F4: the part ends after the upload's end. */
-#define B3STORE_RAGGED 37          /* F5: the length isn't a multiple of 1024, and the part doesn't end at the upload's end. */
-#define B3STORE_PART_TOO_LONG 38   /* F6: more than 2^24 bytes. */
-#define B3STORE_NO_PART_MEMORY 41  /* F9: out of memory for a part. */
-#define B3STORE_NO_VALUE 64        /* The handle is closed, or keeps a value of another kind. */
-#define B3STORE_IS_OPEN 65         /* The handle is open already. */
-#define B3STORE_BAD_LIMITS 66      /* No store has such limits. */
-#define B3STORE_TRUNCATED 67       /* The lines end within the bytes after a line. */
-#define B3STORE_ANSWER_LOST 68     /* Out of memory for the answer to a line. */
-#define B3STORE_TOO_MANY_LINES 69  /* 2^64-1 lines or more. */
+#define B3STORE_NO_TENANT 1        /* S1 */
+#define B3STORE_TENANTS_FULL 2     /* S2 */
+#define B3STORE_LIMIT_TOO_LARGE 3  /* S3 */
+#define B3STORE_BELOW_USE 4        /* S4; why->number is what the tenant uses and reserves */
+#define B3STORE_TOO_LONG 5         /* S5 */
+#define B3STORE_OVER_QUOTA 6       /* S6; why->number is how many are left */
+#define B3STORE_NO_UPLOAD 7        /* S7 */
+#define B3STORE_WRONG_PLAN 8       /* S8 */
+#define B3STORE_OVERLAP 9          /* S9; why->number is the lowest such offset */
+#define B3STORE_INCOMPLETE 10      /* S10; why->number is the lowest such offset */
+#define B3STORE_WRONG_ADDRESS 11   /* S11; why->address is the content's */
+#define B3STORE_NOT_HELD 12        /* S12 */
+#define B3STORE_JOURNAL_FULL 13    /* S13 */
+#define B3STORE_NO_MEMORY 14       /* S14 */
+#define B3STORE_PAST_LAST 15       /* S15; why->number is the offset that the upload reaches */
+#define B3STORE_NOT_FIXED 16       /* S16 */
+#define B3STORE_PLAN_TOO_LONG 33   /* F1 */
+#define B3STORE_EMPTY_PART 34      /* F2 */
+#define B3STORE_OFF_ALIGN 35       /* F3 */
+#define B3STORE_PAST_END 36        /* F4 */
+#define B3STORE_RAGGED 37          /* F5 */
+#define B3STORE_PART_TOO_LONG 38   /* F6 */
+#define B3STORE_NO_PART_MEMORY 41  /* F9 */
+#define B3STORE_NO_VALUE 64
+#define B3STORE_IS_OPEN 65
+#define B3STORE_BAD_LIMITS 66
+#define B3STORE_TRUNCATED 67
+#define B3STORE_ANSWER_LOST 68
+#define B3STORE_TOO_MANY_LINES 69
 
 /* A sentence that says what an answer means. */
 static inline const char *b3store_text_of(uint32_t answer) {
     switch (answer) {
     case B3STORE_DONE: return "success";
-    case B3STORE_NO_TENANT: return "no tenant has this number";
-    case B3STORE_TENANTS_FULL: return "the number of tenants has reached its limit";
-    case B3STORE_LIMIT_TOO_LARGE: return "the tenant's limit exceeds 2^46 bytes";
-    case B3STORE_BELOW_USE: return "the limit is below what the tenant uses and reserves";
-    case B3STORE_TOO_LONG: return "the upload is too long";
+    case B3STORE_NO_TENANT: return "there is no such tenant";
+    case B3STORE_TENANTS_FULL: return "there are already as many tenants as allowed";
+    case B3STORE_LIMIT_TOO_LARGE: return "the limit is above 2^46 bytes";
+    case B3STORE_BELOW_USE: return "the new limit is below the tenant's use and reservation";
+    case B3STORE_TOO_LONG: return "the upload's length or bound is above 2^44 bytes, or its end is above its bound";
     case B3STORE_OVER_QUOTA: return "the tenant has too few bytes left";
-    case B3STORE_NO_UPLOAD: return "no open upload has this number";
-    case B3STORE_WRONG_PLAN: return "the part was prepared for another upload length";
-    case B3STORE_OVERLAP: return "the upload holds bytes of this part already";
-    case B3STORE_INCOMPLETE: return "the upload is incomplete";
+    case B3STORE_NO_UPLOAD: return "there is no such open upload";
+    case B3STORE_WRONG_PLAN: return "the part was made for an upload of another length or bound, or of the other kind";
+    case B3STORE_OVERLAP: return "a byte of the part is covered already";
+    case B3STORE_INCOMPLETE: return "a byte of the upload is not covered";
     case B3STORE_WRONG_ADDRESS: return "the content has another address";
-    case B3STORE_NOT_HELD: return "the tenant holds no object at this address";
-    case B3STORE_JOURNAL_FULL: return "the number of journal entries has reached its limit";
+    case B3STORE_NOT_HELD: return "the tenant holds no such object";
+    case B3STORE_JOURNAL_FULL: return "the journal is full";
     case B3STORE_NO_MEMORY: return "out of memory";
-    case B3STORE_PAST_LAST: return "the upload holds bytes after this end";
-    case B3STORE_NOT_FIXED: return "the upload's length is not fixed yet";
+    case B3STORE_PAST_LAST: return "the part, or the end, does not agree with what the upload holds";
+    case B3STORE_NOT_FIXED: return "the upload's end is not fixed";
     case B3STORE_PLAN_TOO_LONG: return "an upload has at most 2^44 bytes";
     case B3STORE_EMPTY_PART: return "the part has no bytes";
     case B3STORE_OFF_ALIGN: return "the part's offset is not a multiple of 1024";
-    case B3STORE_PAST_END: return "the part ends after the upload's end";
-    case B3STORE_RAGGED: return "the part's length is not a multiple of 1024";
-    case B3STORE_PART_TOO_LONG: return "a part has at most 2^24 bytes";
+    case B3STORE_PAST_END: return "the part ends past the upload's bound";
+    case B3STORE_RAGGED: return "the part's length is not a multiple of 1024, and it doesn't end with the upload";
+    case B3STORE_PART_TOO_LONG: return "the part has more than 2^24 bytes";
     case B3STORE_NO_PART_MEMORY: return "out of memory for the part";
     case B3STORE_NO_VALUE: return "the handle is closed, or keeps another kind of value";
     case B3STORE_IS_OPEN: return "the handle is open already";

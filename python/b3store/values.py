@@ -35,27 +35,28 @@ ADDRESS = re.compile("[0-9a-fA-F]{64}")
 
 REFUSALS = {
     "S1": "there is no such tenant",
-    "S2": "the store has the maximum number of tenants",
+    "S2": "there are already as many tenants as allowed",
     "S3": "the limit is above 2^46 bytes",
-    "S4": "the limit is below what the tenant uses and reserves",
-    "S5": "the upload is too long",
+    "S4": "the new limit is below the tenant's use and reservation",
+    "S5": "the upload's length or bound is above 2^44 bytes, or its end is above its bound",
     "S6": "the tenant has too few bytes left",
     "S7": "there is no such open upload",
-    "S9": "a byte of the part is already covered",
-    "S10": "a byte is missing",
-    "S11": "the content has a different address",
+    "S8": "the part was made for an upload of another length or bound, or of the other kind",
+    "S9": "a byte of the part is covered already",
+    "S10": "a byte of the upload is not covered",
+    "S11": "the content has another address",
     "S12": "the tenant holds no such object",
     "S13": "the journal is full",
     "S14": "out of memory",
-    "S15": "the part or the end disagrees with what the upload holds",
+    "S15": "the part, or the end, does not agree with what the upload holds",
     "S16": "the upload's end is not fixed",
-    "F2": "the part is empty",
+    "F2": "the part has no bytes",
     "F3": "the part's offset is not a multiple of 1024",
     "F4": "the part ends past the upload's bound",
-    "F5": "the part's length is not a multiple of 1024, and it is not the last part",
-    "F6": "the part is longer than 2^24 bytes",
+    "F5": "the part's length is not a multiple of 1024, and it doesn't end with the upload",
+    "F6": "the part has more than 2^24 bytes",
 }
-"""What each refusal means."""
+"""What each refusal means, as docs/PROTOCOL.md says."""
 
 
 class StoreError(Exception):

@@ -9,8 +9,7 @@ import stores
 import transfers
 
 FUNCTIONS = (
-    stores.each_command, stores.each_refusal, stores.wrong_arguments, stores.some_entries, stores.refusals_are_values, stores.refusals_of_the_page,
-    stores.buffers_of_all_kinds, stores.by_threads, stores.closed_stores, stores.stores_after_a_fork, stores.memory_that_is_freed,
+    stores.each_command, stores.each_refusal, stores.wrong_arguments, stores.some_entries, stores.refusals_are_values, stores.buffers_of_all_kinds, stores.by_threads, stores.closed_stores, stores.stores_after_a_fork, stores.memory_that_is_freed,
     stores.stores_without_memory, stores.interrupts_at_any_moment,
     transfers.uploads_of_all_sources, transfers.uploads_that_fail, transfers.uploads_side_by_side, transfers.files_that_go_one_way,
     transfers.uploads_with_blocks, transfers.writes_after_a_refusal, transfers.slow_files, transfers.objects_as_files, transfers.reads_into_buffers,

@@ -6,7 +6,6 @@ import gc
 import mmap
 import os
 import pickle
-import re
 import resource
 import signal
 import subprocess
@@ -15,7 +14,7 @@ import threading
 
 from bridge import client_of_a_server, over_both
 from shared import ABC, EMPTY, FOUR, SECONDS, TOP, alarms, check, in_threads, interrupted_calls, raised, refusal
-from b3store import MAX_NUMBER, PART_LEN, REFUSALS, Counts, Filed, Held, OpenUpload, Refused, Store, Totals, Usage
+from b3store import MAX_NUMBER, PART_LEN, Counts, Filed, Held, OpenUpload, Refused, Store, Totals, Usage
 from b3store.store import SMALL_LEN
 from b3store.values import half_of_memory
 
@@ -122,13 +121,6 @@ def refusals_are_values():
             check(*(((it.number, it.value, it.label, str(it)), ("S6", 5, "free", told)) for it in copies))
         else:
             raise AssertionError("nothing was refused")
-
-
-def refusals_of_the_page():
-    """The module's table has the refusals that docs/PROTOCOL.md says of a session's lines."""
-    with open(os.path.join(TOP, "docs", "PROTOCOL.md"), encoding="utf-8") as page:
-        told = set(re.findall(r"^\| ([SF]\d+) \|", page.read(), re.MULTILINE))
-    check((set(REFUSALS), told - {"S8"}))
 
 
 def buffers_of_all_kinds():
