@@ -4,7 +4,7 @@
     backup.py save [--exclude PATTERN].. [--all] REPOSITORY FOLDER    save what is in FOLDER, and print the snapshot's address
     backup.py list REPOSITORY [SNAPSHOT]                              list the snapshots, or the paths of one
     backup.py restore REPOSITORY SNAPSHOT FOLDER [PATH]               restore a snapshot, or one path of it, into FOLDER
-    backup.py check [--program PROGRAM] REPOSITORY                    hash all objects again, and print what can't be restored
+    backup.py check REPOSITORY                                        hash all objects again, and print what can't be restored
     backup.py forget REPOSITORY [SNAPSHOT]..                          remove snapshots, and what no other one needs
 
 A SNAPSHOT is an address, its first digits, or `latest`. A PATTERN is for names, as `*.o`, or, with a slash, for paths below FOLDER, as `build/*`.
@@ -20,8 +20,8 @@ file isn't read again if its number, length and times are those of the last snap
 `restore` writes each file under another name first, leaves alone what is there already, and reports what differs: after an interrupt it can be run again. No link
 in FOLDER is followed. A new folder has the mode 1700 until it is complete.
 
-While a save or a forget uses a repository, no other command does. A save that is killed changes no snapshot. `check` gives each log to the program b3store, which
-needs as much memory: 64 MiB, or one object. Each command takes about 300 bytes of memory for each object.
+While a save or a forget uses a repository, no other command does. A save that is killed changes no snapshot. Each command takes about 300 bytes of memory for each
+object.
 """
 import os
 import sys
@@ -35,18 +35,17 @@ if __name__ == "__main__":
 import argparse
 import collections
 import contextlib
-import errno
 import fcntl
 import fnmatch
+import itertools
 import json
 import re
 import stat
-import subprocess
 import time
 
 from b3store import MAX_LIMIT, Store, StoreError
 from b3store.console import count_text, error_text, finish, one_line
-from b3store.files import create_anew
+from b3store.files import create_anew, opener_in
 
 try:
     from b3store.hashing import blake3
@@ -92,9 +91,9 @@ class Repository:
         print(one_line(text), flush=True)
         self.status = max(self.status, status)
 
-    def open(self, name, mode="rb"):
+    def open(self, name):
         """Opens a file of the folder. No link is followed, and no pipe is waited for."""
-        return open(name, mode, opener=lambda name, flags: os.open(name, flags | os.O_NOFOLLOW | os.O_NONBLOCK, 0o600, dir_fd=self.folder))
+        return open(name, "rb", opener=opener_in(self.folder))
 
     def read_log(self, name):
         """Notes where the objects of a log are."""
@@ -220,29 +219,14 @@ def inside(name, flags=os.O_NOFOLLOW):
 
 def opened(name, mode="rb"):
     """Opens a file of the current folder, without a buffer. No link is followed, and no pipe is waited for."""
-    return open(name, mode, 0, opener=lambda name, flags: os.open(name, flags | os.O_NOFOLLOW | os.O_NONBLOCK, 0o600))
+    return open(name, mode, 0, opener=opener_in(None))
 
 
 def parts_of(file, size):
     """Yields the parts of a file that is open without a buffer: bytes, or in place of parts that are zeros the number of these."""
-    at = zeros = 0
-    while at < size:
-        content = os.pread(file.fileno(), min(PART, size - at), at)
-        if not content:
-            break
-        if content.strip(b"\0"):
-            yield from filter(None, [zeros, content])
-            zeros, at = 0, at + PART
-            continue
-        try:
-            # the holes that follow need not be read
-            data = file.seek(at, os.SEEK_DATA)
-        except OSError as error:
-            data = size + PART - 1 if error.errno == errno.ENXIO else at
-        count = max(1, (data - at) // PART)
-        zeros, at = zeros + count, at + count * PART
-    if zeros:
-        yield zeros
+    contents = itertools.takewhile(len, (os.pread(file.fileno(), min(PART, size - at), at) for at in range(0, size, PART)))
+    for has_data, parts in itertools.groupby(contents, lambda content: bool(content.strip(b"\0"))):
+        yield from parts if has_data else [sum(1 for _ in parts)]
 
 
 class Backup(Repository):
@@ -448,14 +432,12 @@ class Backup(Repository):
                 self.report(f"{address}  {fault}")
 
     def check(self):
-        count, broken, whole, hashed = len(self.places), 0, set(), {}
-        for name in self.logs:
-            # the program compares the hash of each object with its address
-            with self.open(name) as log, subprocess.Popen([self.options.program, "serve"], stdin=log, stdout=subprocess.PIPE) as process:
-                hashed[name] = {line.split()[1].decode() for line in process.stdout if line.startswith((b"new ", b"known "))}
-        for address, (name, _, _) in [*self.places.items()]:
-            if address not in hashed[name]:
-                self.report(f"damaged: object {address} in {name}")
+        count, broken, whole = len(self.places), 0, set()
+        for address in [*self.places]:
+            try:
+                self.read(address)
+            except Fault as fault:
+                self.report(str(fault))
                 del self.places[address]
         for address in self.snapshots:
             lists, faults = set(), []
@@ -516,8 +498,6 @@ def main():
         if work is Backup.save:
             command.add_argument("--exclude", metavar="PATTERN", action="append", default=[])
             command.add_argument("--all", action="store_true")
-        if work is Backup.check:
-            command.add_argument("--program", metavar="PROGRAM", default="b3store")
     options = parser.parse_args()
     if options.work is Backup.save:
         os.makedirs(options.repository, 0o700, exist_ok=True)

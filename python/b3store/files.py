@@ -3,7 +3,7 @@ import contextlib
 import fcntl
 import os
 import time
-from typing import BinaryIO, Callable
+from typing import BinaryIO, Callable, Optional
 
 SECONDS_BETWEEN_TRIES = 0.05
 
@@ -17,21 +17,15 @@ def lock_folder(path: str, seconds: float = 0) -> int:
     folder, end = os.open(path, os.O_RDONLY | os.O_DIRECTORY), time.monotonic() + seconds
     with contextlib.ExitStack() as failing:
         failing.callback(os.close, folder)
-        while not try_to_lock(folder):
-            if time.monotonic() >= end:
-                raise FolderInUse(f"{path} is in use by another server")
+        while True:
+            try:
+                fcntl.flock(folder, fcntl.LOCK_EX | fcntl.LOCK_NB)
+                failing.pop_all()
+                return folder
+            except BlockingIOError:
+                if time.monotonic() >= end:
+                    raise FolderInUse(f"{path} is in use by another server") from None
             time.sleep(SECONDS_BETWEEN_TRIES)
-        failing.pop_all()
-    return folder
-
-
-def try_to_lock(folder: int) -> bool:
-    """Locks an open folder. False if another process has locked it."""
-    try:
-        fcntl.flock(folder, fcntl.LOCK_EX | fcntl.LOCK_NB)
-        return True
-    except BlockingIOError:
-        return False
 
 
 def create_anew(folder: int, name: str) -> BinaryIO:
@@ -41,6 +35,6 @@ def create_anew(folder: int, name: str) -> BinaryIO:
     return open(name, "xb", opener=opener_in(folder))
 
 
-def opener_in(folder: int) -> Callable[[str, int], int]:
-    """For the argument `opener` of `open`: opens a file of an open folder by its name, and follows no link."""
-    return lambda name, flags: os.open(name, flags | os.O_NOFOLLOW, 0o600, dir_fd=folder)
+def opener_in(folder: Optional[int]) -> Callable[[str, int], int]:
+    """For the argument `opener` of `open`: opens a file of an open folder, or of the current one, by its name. It follows no link, and waits for no pipe."""
+    return lambda name, flags: os.open(name, flags | os.O_NOFOLLOW | os.O_NONBLOCK, 0o600, dir_fd=folder)

@@ -18,9 +18,10 @@ import tempfile
 import time
 from unittest import mock
 
-from shared import PROGRAM, SECONDS, TOP, check, readable_by_others
+from shared import SECONDS, TOP, check, readable_by_others
 from b3store.hashing import blake3
 import backup
+from pathlib import Path
 
 BACKUP = [sys.executable, os.path.join(TOP, "examples", "backup.py")]
 PART = backup.PART
@@ -33,21 +34,16 @@ def run(*words, **how):
     return ran.returncode, ran.stdout.decode(errors="surrogateescape").splitlines(), ran.stderr.decode(errors="surrogateescape").splitlines()
 
 
-def run_check(repository):
-    return run("check", "--program", PROGRAM, repository)
-
-
 def is_whole(repository, snapshots):
     """Checks a repository that should have so many snapshots, each of which can be restored."""
-    status, lines, errors = run_check(repository)
+    status, lines, errors = run("check", repository)
     check((status, 0), (errors, []), (bool(re.fullmatch(f"[0-9]+ objects?, 0 damaged; {snapshots} snapshots?, 0 broken", lines[-1])), True))
 
 
 def put(folder, name, content=b"abc", mode=0o644):
     path = os.path.join(folder, name)
     os.makedirs(os.path.dirname(path), exist_ok=True)
-    with open(path, "wb") as file:
-        file.write(content)
+    Path(path).write_bytes(content)
     os.chmod(path, mode)
     # a file that has just changed is always read again
     os.utime(path, ns=(5, 1234567890))
@@ -63,8 +59,7 @@ def state_of(folder):
             status = os.lstat(path)
             content = os.readlink(path) if stat.S_ISLNK(status.st_mode) else None
             if stat.S_ISREG(status.st_mode):
-                with open(path, "rb") as file:
-                    content = file.read()
+                content = Path(path).read_bytes()
             links = first.setdefault(status.st_ino, os.path.relpath(path, folder)) if stat.S_ISREG(status.st_mode) else None
             found[os.path.relpath(path, folder)] = status.st_mode, status.st_uid, status.st_gid, status.st_mtime_ns, content, links
     return found
@@ -187,8 +182,7 @@ def resumed_restores():
         os.chmod(restored, 0o711)
         status, lines, _ = run("restore", repository, "latest", restored)
         names = ["differs, and is left as it is: many/3/file", "not restored: many/4: not a directory", "differs, and is left as it is: sub/link"]
-        with open(changed, "rb") as file:
-            check((status, 1), (lines, names), (file.read(), b"mine"), (stat.S_IMODE(os.stat(restored).st_mode), 0o711))
+        check((status, 1), (lines, names), (Path(changed).read_bytes(), b"mine"), (stat.S_IMODE(os.stat(restored).st_mode), 0o711))
         check((state_of(restored)["same"] == wanted["same"], True), (os.listdir(os.path.join(restored, "many", "5")), ["file"]))
 
 
@@ -220,15 +214,13 @@ def damaged_objects():
     """A damaged object is named, with what it is needed for; all else is restored; and a save of what has it repairs it. So is a damaged line of a log."""
     with place_of() as (folder, repository, restored):
         log = os.path.join(repository, "000001.log")
-        with open(log, "rb") as file:
-            content = file.read()
-        with open(os.path.join(folder, "many/7/file"), "rb") as file:
-            offset = content.index(file.read())
+        content = Path(log).read_bytes()
+        offset = content.index(Path(os.path.join(folder, "many/7/file")).read_bytes())
         address = content[: offset - 1].split(b" ")[-2].decode()
         changed_byte(log, offset + 5)
-        status, lines, _ = run_check(repository)
+        status, lines, _ = run("check", repository)
         short = run("list", repository)[1][0][:8]
-        check((status, 1), (lines[:2], [f"damaged: object {address} in 000001.log", f"snapshot {short} can't restore many/7/file"]), (lines[2].split(", ", 1)[1], "1 damaged; 1 snapshot, 1 broken"))
+        check((status, 1), (lines[:2], [f"object {address} in 000001.log is damaged", f"snapshot {short} can't restore many/7/file"]), (lines[2].split(", ", 1)[1], "1 damaged; 1 snapshot, 1 broken"))
         status, lines, _ = run("restore", repository, "latest", restored)
         check((status, 1), (lines, [f"not restored: many/7/file: object {address} in 000001.log is damaged"]))
         check((set(state_of(folder)) - set(state_of(restored)), {"many/7/file"}), (run("save", "--all", repository, folder)[0], 0))
@@ -247,15 +239,12 @@ def damaged_snapshots():
     with place_of() as (folder, repository, restored):
         run("save", repository, folder)
         path = os.path.join(repository, "snapshots")
-        with open(path, "rb") as file:
-            damaged = b"x" + file.read()[1:]
-        with open(path, "wb") as file:
-            file.write(damaged)
+        damaged = b"x" + Path(path).read_bytes()[1:]
+        Path(path).write_bytes(damaged)
         status, lines, _ = run("list", repository)
         check((status, 1), (lines[0], f"{path} has 1 damaged line"), (len(lines), 2), (run("forget", repository, "latest")[0], 3))
         check((run("save", repository, folder)[0], 1), (run("restore", repository, "latest", restored)[0], 1), (state_of(restored) == state_of(folder), True))
-        with open(path, "rb") as file:
-            check((file.read().startswith(damaged), True))
+        check((Path(path).read_bytes().startswith(damaged), True))
 
 
 def hostile_repositories():
@@ -311,8 +300,7 @@ def planted_links():
         os.remove(os.path.join(repository, "000009.log"))
         os.mkfifo(os.path.join(repository, "000009.log"))
         check((run("list", repository)[0], 0))
-        with open(victim, "rb") as file:
-            check((file.read(), b"victim"), (stat.S_IMODE(os.stat(victim).st_mode), 0o644))
+        check((Path(victim).read_bytes(), b"victim"), (stat.S_IMODE(os.stat(victim).st_mode), 0o644))
 
 
 def swapped(module, name, when, change):
@@ -356,8 +344,7 @@ def replaced_while_it_runs():
             check((status, 1), (len([line for line in lines if line.startswith("left out: " + name.replace("\n", "\\n"))]), 1))
             os.unlink(path)
             os.rename(path + ".moved", path)
-        with open(os.path.join(repository, max(name for name in os.listdir(repository) if name.endswith(".log"))), "rb") as file:
-            check((b"secret" in file.read(), False))
+        check((b"secret" in Path(os.path.join(repository, max(name for name in os.listdir(repository) if name.endswith(".log")))).read_bytes(), False))
         first = run("list", repository)[1][0].split()[0]
         with swapped(os, "open", lambda opened, *_, **how: opened == "many", put_link(os.path.join(restored, "many"), os.path.join(outside, "secret"))):
             status, lines = in_process("restore", repository, first, restored)
@@ -391,9 +378,8 @@ def changing_files():
         os.utime(os.path.join(folder, "quick"), ns=(before.st_atime_ns, before.st_mtime_ns))
         run("save", repository, folder)
         run("restore", repository, "latest", restored)
-        with open(os.path.join(restored, "quick"), "rb") as file:
-            check((file.read(), b"two"))
-            is_whole(repository, len(run("list", repository)[1]))
+        check((Path(restored, "quick").read_bytes(), b"two"))
+        is_whole(repository, len(run("list", repository)[1]))
 
 
 def access_list(*entries):
@@ -495,7 +481,7 @@ def locks():
         for lock, statuses in (fcntl.LOCK_EX, (3, 3, 3)), (fcntl.LOCK_SH, (3, 0, 0)):
             holding = os.open(repository, os.O_RDONLY)
             fcntl.flock(holding, lock)
-            got = run("save", repository, folder), run("restore", repository, "latest", restored), run_check(repository)
+            got = run("save", repository, folder), run("restore", repository, "latest", restored), run("check", repository)
             os.close(holding)
             check((tuple(each[0] for each in got), statuses), (got[0][2], [f"b3store: {repository} is in use by another command"]))
 
@@ -506,7 +492,7 @@ def wrong_words():
         file = os.path.join(folder, "large")
         cases = (
             (["save", repository, restored], 3, restored), (["save", file, folder], 3, file), (["save", repository, file], 3, file), (["save", repository, repository], 3, repository), (["check", restored], 3, restored),
-            (["restore", repository, "latest", file], 3, file), (["save", "", folder], 3, ""), (["restore", repository, "latest", ""], 3, ""), (["check", "--program", restored, repository], 3, restored),
+            (["restore", repository, "latest", file], 3, file), (["save", "", folder], 3, ""), (["restore", repository, "latest", ""], 3, ""),
             (["frob", repository], 2, "'frob'"), (["save", repository], 2, "FOLDER"), ([], 2, "COMMAND"), (["list", repository, "a", "b"], 2, "b"),
         )
         for words, status, part in cases:
