@@ -11,6 +11,7 @@ import sys
 import tempfile
 import threading
 import time
+from pathlib import Path
 
 from servers import SERVER, Cache, altered
 from shared import SECONDS, check, readable_by_others, wait_until
@@ -24,8 +25,7 @@ def contents(folder):
     """The files of a folder, with what is in them."""
     found = {}
     for name in sorted(os.listdir(folder)):
-        with open(os.path.join(folder, name), "rb") as file:
-            found[name] = file.read()
+        found[name] = Path(os.path.join(folder, name)).read_bytes()
     return found
 
 
@@ -182,8 +182,7 @@ def damaged_logs():
                 check((cache.get("/new"), b"new"), ([cache.get("/" + key) for key in "abc"], kept))
             shutil.rmtree(folder + ".copy")
         for content in whole[:offset] + b"x" + whole[offset:], b"garbage\n" + whole, whole.replace(b"tenant ", b"tenant x", 1):
-            with open(log, "wb") as file:
-                file.write(content)
+            Path(log).write_bytes(content)
             before = contents(folder)
             status, out, lines = ended([folder])
             check((status, 1), (out, b""), (1 <= len(lines) <= 2, True), ("/log: line" in lines[-1], True), (contents(folder) == before, True))
