@@ -77,7 +77,7 @@ def get(store: Client, words: Any) -> Optional[int]:
             room = memoryview(bytearray(min(PART_LEN, end - start)))
             for at in range(start, end, PART_LEN):
                 piece = room[: end - at]
-                store._fill(tenant, words.address, piece, at)
+                store._read_into(tenant, words.address, piece, at, piece.nbytes)
                 write(piece)
     except Refused as fault:
         return miss(f"{words.address}: {fault}")
@@ -139,12 +139,6 @@ def has(store: Client, words: Any) -> int:
     return status
 
 
-def ls(store: Client, words: Any) -> None:
-    """Prints the address and the length of each object that the tenant holds."""
-    for row in store.list(tenant_of(store, words)).items():
-        print(*row)
-
-
 def rm(store: Client, words: Any) -> int:
     """Stops holding objects for the tenant."""
     tenant, status = tenant_of(store, words), 0
@@ -156,41 +150,27 @@ def rm(store: Client, words: Any) -> int:
     return status
 
 
-def open_tenant(store: Client, words: Any) -> None:
-    """Opens a tenant, and prints its number."""
-    print(store.tenant(words.limit))
+def ls(store: Client, words: Any) -> None:
+    """Prints the address and the length of each object that the tenant holds."""
+    for row in store.list(tenant_of(store, words)).items():
+        print(*row)
 
 
-def set_limit(store: Client, words: Any) -> None:
-    """Changes the tenant's limit."""
-    store.limit(tenant_of(store, words), words.limit)
-
-
-def show_usage(store: Client, words: Any) -> None:
-    """Prints what the tenant uses and reserves, and its limit."""
-    print(named(store.usage(tenant_of(store, words))))
-
-
-def show_stat(store: Client, _: Any) -> None:
-    """Prints what the store contains."""
-    print(named(store.stat()))
-
-
-def show_tenants(store: Client, _: Any) -> None:
+def tenants(store: Client, _: Any) -> None:
     """Prints a line for each tenant."""
     for number, usage in store.tenants().items():
         print(f"tenant {number}", named(usage))
 
 
-def named(values: Any) -> str:
-    """The values of a tuple, each after its name."""
-    return " ".join(f"{name} {value}" for name, value in values._asdict().items())
-
-
-def show_journal(store: Client, words: Any) -> None:
+def journal(store: Client, words: Any) -> None:
     """Prints entries of the journal."""
     for entry in itertools.islice(store.journal(words.start), min(words.count, sys.maxsize)):
         print(one_line(entry))
+
+
+def named(values: Any) -> str:
+    """The values of a tuple, each after its name."""
+    return " ".join(f"{name} {value}" for name, value in values._asdict().items())
 
 
 def tenant_of(store: Client, words: Any) -> int:
@@ -263,14 +243,15 @@ def make_parser() -> argparse.ArgumentParser:
     add_command(commands, ls, "ls", "print the address and length of each object that the tenant holds")
     add = add_command(commands, rm, "rm", "stop holding objects for the tenant")
     add("addresses", nargs="+", type=address_argument, metavar="ADDRESS")
-    add = add_command(commands, open_tenant, "tenant", "open a tenant, which can't be closed, and print its number", False)
-    add("limit", type=size, metavar="LIMIT", help="how many bytes it may hold, as 512M or 4G")
-    add = add_command(commands, set_limit, "limit", "change the tenant's limit")
-    add("limit", type=size, metavar="LIMIT", help="how many bytes it may hold, as 512M or 4G")
-    add_command(commands, show_usage, "usage", "print what the tenant uses and reserves, and its limit")
-    add_command(commands, show_stat, "stat", "print what the store contains", False)
-    add_command(commands, show_tenants, "tenants", "print what each tenant uses and reserves, and its limit", False)
-    add = add_command(commands, show_journal, "journal", "print the journal's entries", False)
+    opening = "open a tenant, which can't be closed, and print its number"
+    limit: Any = {"type": size, "metavar": "LIMIT", "help": "how many bytes it may hold, as 512M or 4G"}
+    add_command(commands, lambda store, words: print(store.tenant(words.limit)), "tenant", opening, False)("limit", **limit)
+    add_command(commands, lambda store, words: store.limit(tenant_of(store, words), words.limit), "limit", "change the tenant's limit")("limit", **limit)
+    using = "print what the tenant uses and reserves, and its limit"
+    add_command(commands, lambda store, words: print(named(store.usage(tenant_of(store, words)))), "usage", using)
+    add_command(commands, lambda store, _: print(named(store.stat())), "stat", "print what the store contains", False)
+    add_command(commands, tenants, "tenants", "print what each tenant uses and reserves, and its limit", False)
+    add = add_command(commands, journal, "journal", "print the journal's entries", False)
     add("--from", dest="start", type=NUMBER, default=0, metavar="N", help="start at entry N (default 0)")
     add("--count", type=NUMBER, default=MAX_NUMBER, metavar="N", help="print up to N entries")
     return parser

@@ -58,9 +58,6 @@ class AsyncStore:
 
     async def ranges(self, tenant: int, address: str, length: int = RANGE_LEN) -> AsyncIterator[bytes]:
         """See `Store.ranges`."""
-        offset, length = 0, check_number("length", length, 1)
-        content = await self.fetch(tenant, address, offset, length)
-        while content:
-            yield content
-            offset += len(content)
-            content = await self.fetch(tenant, address, offset, length) if len(content) == length else b""
+        pieces = self.store.ranges(tenant, address, length)
+        while piece := await self.run(next, pieces, b""):
+            yield piece

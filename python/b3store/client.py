@@ -7,11 +7,10 @@ import queue
 import socket
 import threading
 import time
-import weakref
 from typing import Any, Callable, List, Optional, Sequence, TypeVar, Union
 
 from .sessions import BUSY, READ_LEN, Session
-from .commands import Commands
+from .commands import Commands, opened
 from .values import MAX_SESSIONS, Ended, Refused, check_number
 
 Place = Union[str, bytes, "os.PathLike[str]"]
@@ -108,18 +107,19 @@ class Client(Commands):
         self._fault = self._fault or Ended("the client was closed")
 
     def _open_session(self) -> Session:
-        connection = connect(self._path)
-        try:
+        with contextlib.ExitStack() as failing:
+            connection = failing.enter_context(socket.socket(socket.AF_UNIX, socket.SOCK_STREAM))
+            try:
+                connection.connect(self._path)
+            except OSError as fault:
+                raise type(fault)(fault.errno, fault.strerror or str(fault), os.fsdecode(self._path)) from None
             pipes = self._ask_for_pipes(connection) if self._passes_pipes else []
             if not pipes and self._passes_pipes:
                 self._passes_pipes = False
-                connection.close()
                 return self._open_session()
+            failing.pop_all()
             self._sockets.append(connection)
             return PipeSession(connection, pipes, self._end) if pipes else Session(connection, connection.makefile("rb", READ_LEN), self._end)
-        except BaseException:
-            connection.close()
-            raise
 
     def _ask_for_pipes(self, connection: socket.socket) -> List[int]:
         """The pipes of a connection's session. None if they are lost on the way to this process, or the server knows of none."""
@@ -158,10 +158,14 @@ class Client(Commands):
         for session in sessions:
             self._free.put(session)
 
-    def _leave(self, nowhere: int) -> None:
-        """Leaves the sessions to the process that opened them. Here, `close` waits for no thread of that one."""
-        for session in self._all:
-            session.leave(nowhere)
+    def _leave(self) -> None:
+        # while another process has copies of them, what the parent closes doesn't end
+        with contextlib.suppress(OSError):
+            nowhere = os.open(os.devnull, os.O_RDWR)
+            for session in self._all:
+                session.leave(nowhere)
+            os.close(nowhere)
+        # here, `close` waits for no thread of the parent
         self._free, self._closing = queue.SimpleQueue(), threading.Lock()
         self._give_back(self._all)
 
@@ -208,32 +212,3 @@ class Client(Commands):
             raise
         session.fault = None
         return found
-
-
-def connect(path: Union[str, bytes]) -> socket.socket:
-    """Connects to a Unix-domain socket. Raises OSError, with the path."""
-    connection = socket.socket(socket.AF_UNIX, socket.SOCK_STREAM)
-    try:
-        connection.connect(path)
-    except OSError as fault:
-        connection.close()
-        raise type(fault)(fault.errno, fault.strerror or str(fault), os.fsdecode(path)) from None
-    except BaseException:
-        connection.close()
-        raise
-    return connection
-
-
-opened: "weakref.WeakSet[Client]" = weakref.WeakSet()
-
-
-def leave_all() -> None:
-    """Leaves all clients to the parent of a new process: while another process has copies of them, what the parent closes doesn't end."""
-    with contextlib.suppress(OSError):
-        nowhere = os.open(os.devnull, os.O_RDWR)
-        for client in list(opened):
-            client._leave(nowhere)
-        os.close(nowhere)
-
-
-os.register_at_fork(after_in_child=leave_all)

@@ -1,13 +1,15 @@
 """The commands of a store, as lines, of a server (client.py) or of the library (store.py); and uploads of any length."""
 import io
 import itertools
+import os
 import sys
+import weakref
 from types import TracebackType
 from typing import Any, BinaryIO, Callable, Dict, Iterator, List, Optional, Sequence, Type, TypeVar, Union
 
 from .redo import run_lines
 from .sessions import Session
-from .transfers import PARTS_AT_ONCE, StoredObject, Upload, is_file, length_of, parts_of
+from .transfers import PARTS_AT_ONCE, StoredObject, Upload, is_file, length_of, parts_of, split
 from .values import (
     CHUNK_LEN, FILED, MAX_NUMBER, MAX_REDONE, MAX_UPLOAD_LEN, PART_LEN, RANGE_LEN, Buffer, Counts, Filed, Held, ObjectPage, ObjectRow, OpenUpload, Redone,
     Refused, Totals, Usage, check_address, check_bytes, check_number, check_room, half_of_memory, parse,
@@ -16,6 +18,8 @@ from .values import (
 Value = TypeVar("Value")
 Self = TypeVar("Self", bound="Commands")
 
+opened: "weakref.WeakSet[Commands]" = weakref.WeakSet()
+"""The stores that leave themselves to the parent of a new process."""
 HELD, ROW, TOTALS = "held N (?:all|missing N)", "A L", "objects N bytes N uploads N held N parts N"
 """Forms of answers (`values.parse`)."""
 
@@ -32,6 +36,9 @@ class Commands:
     def close(self) -> None:
         """Ends the use of the store."""
         raise NotImplementedError
+
+    def _leave(self) -> None:
+        """Leaves the store to the parent of a new process, whose copy of it can't be used."""
 
     def __enter__(self: Self) -> Self:
         return self
@@ -62,8 +69,10 @@ class Commands:
 
     def put(self, upload: int, offset: int, part: Buffer) -> Held:
         """Adds a part to an upload. Refusals: S7, F2 to F6, S9, S15."""
-        view = check_bytes(part)
-        return Held(*self._ask(HELD, f"putb {check_number('upload', upload)} {check_number('offset', offset)} {view.nbytes}", view))
+        return self._put(check_number("upload", upload), check_number("offset", offset), check_bytes(part))
+
+    def _put(self, upload: int, offset: int, view: memoryview) -> Held:
+        return Held(*self._ask(HELD, f"putb {upload} {offset} {view.nbytes}", view))
 
     def seal(self, upload: int) -> Filed:
         """Files an upload as an object. Refusals: S7, S16, S10, S6."""
@@ -83,10 +92,12 @@ class Commands:
         self._ask("ok", f"abort {check_number('upload', upload)}")
 
     def file(self, tenant: int, content: Buffer, address: Optional[str] = None) -> Filed:
-        """Files content in one turn; of long content, `upload` lets others have turns. If an address is given, content with another address is refused.
-        Refusals: those of `begin`, `put` and `seal_as`; after a refusal the upload is aborted."""
-        view, tenant = check_bytes(content), check_number("tenant", tenant)
-        line = f"file {tenant} {view.nbytes}" if address is None else f"fileas {tenant} {check_address(address)} {view.nbytes}"
+        """Files content; a client does so in one turn, and with `upload` others have turns meanwhile. If an address is given, content with another address is
+        refused. Refusals: those of `begin`, `put` and `seal_as`; after a refusal the upload is aborted."""
+        return self._file(check_number("tenant", tenant), check_bytes(content), None if address is None else check_address(address))
+
+    def _file(self, tenant: int, view: memoryview, address: Optional[str]) -> Filed:
+        line = f"file {tenant} {view.nbytes}" if address is None else f"fileas {tenant} {address} {view.nbytes}"
         return self._talk(lambda _, *values: filed_of(values, address, view.nbytes), FILED, line, view)
 
     def forget(self, tenant: int, address: str) -> None:
@@ -108,35 +119,25 @@ class Commands:
 
     def fetch(self, tenant: int, address: str, offset: int = 0, length: int = MAX_UPLOAD_LEN) -> bytes:
         """Returns up to `length` bytes of an object, starting at `offset`; by default all. Refusals: S1, S12."""
-        line, max_len = fetch_line(tenant, address, offset, length), check_number("length", length)
-        return self._talk(lambda session, count: session.content(count, max_len), "bytes N", line)
+        return self._fetch(check_number("tenant", tenant), check_address(address), check_number("offset", offset), check_number("length", length))
+
+    def _fetch(self, tenant: int, address: str, offset: int, length: int) -> bytes:
+        return self._talk(lambda session, count: session.content(count, length), "bytes N", f"fetchb {tenant} {address} {offset} {length}")
 
     def fetch_into(self, tenant: int, address: str, room: Buffer, offset: int = 0) -> int:
         """Reads an object's bytes, starting at `offset`, into a writable buffer, and returns how many it read. These are fewer than the buffer has room for
         only at the object's end. Refusals: S1, S12."""
-        view = check_room(room)
-        return self._read_into(tenant, address, view, offset, 0)
+        return self._read_into(check_number("tenant", tenant), check_address(address), check_room(room), check_number("offset", offset))
 
-    def _fill(self, tenant: int, address: str, view: memoryview, offset: int) -> None:
-        """Reads bytes that the object is known to have into a whole buffer. Refusals: S1, S12."""
-        self._read_into(tenant, address, view, offset, view.nbytes)
-
-    def _read_into(self, tenant: int, address: str, view: memoryview, offset: int, min_len: int) -> int:
-        return self._talk(lambda session, count: session.content_into(count, view, min_len), "bytes N", fetch_line(tenant, address, offset, view.nbytes))
+    def _read_into(self, tenant: int, address: str, view: memoryview, offset: int, min_len: int = 0) -> int:
+        """Reads into a buffer at least `min_len` bytes, which the object is known to have."""
+        line = f"fetchb {tenant} {address} {offset} {view.nbytes}"
+        return self._talk(lambda session, count: session.content_into(count, view, min_len), "bytes N", line)
 
     def ranges(self, tenant: int, address: str, length: int = RANGE_LEN) -> Iterator[bytes]:
         """Yields an object's bytes in ranges of `length`. Other commands can run between two of them. Refusals: S1, S12."""
-        return self._ranges(tenant, address, check_number("length", length, 1))
-
-    def _ranges(self, tenant: int, address: str, length: int) -> Iterator[bytes]:
-        offset = 0
-        while True:
-            content = self.fetch(tenant, address, offset, length)
-            if content:
-                yield content
-            if len(content) < length:
-                return
-            offset += length
+        length = check_number("length", length, 1)
+        return filter(None, pages(lambda offset: self.fetch(tenant, address, offset, length), 0, length))
 
     def usage(self, tenant: int) -> Usage:
         """Returns how many bytes a tenant uses and reserves, and its limit. Refusals: S1."""
@@ -187,15 +188,8 @@ class Commands:
 
     def journal(self, start: int = 0, page_len: int = 1000) -> Iterator[str]:
         """Yields the journal's entries from number `start` on, which it reads in pages of `page_len`, until there are no more. Refusals: S14."""
-        return self._journal(check_number("start", start), check_number("page_len", page_len, 1))
-
-    def _journal(self, start: int, page_len: int) -> Iterator[str]:
-        while True:
-            page = self.entries(start, page_len)
-            yield from page
-            if len(page) < page_len:
-                return
-            start += page_len
+        start, page_len = check_number("start", start), check_number("page_len", page_len, 1)
+        return itertools.chain.from_iterable(pages(lambda at: self.entries(at, page_len), start, page_len))
 
     def redo(self, first: int, count: int = MAX_REDONE) -> Redone:
         """Returns lines that redo on another store what up to `count` entries of the journal, from number `first` on, have done, and the number of the entry
@@ -204,7 +198,6 @@ class Commands:
 
     def _redo_to(self, write: Callable[[memoryview], None], first: int, count: int) -> int:
         """The same, but passes the lines in pieces to a function, which must raise nothing. Returns the number of the entry after those."""
-
         return self._redo(lambda session, length: session.content_to(length, write), first, count).next
 
     def _redo(self, read: Callable[[Session, int], Any], first: int, count: int) -> Redone:
@@ -244,13 +237,12 @@ class Commands:
             raise ValueError(f"the content has {view.nbytes} bytes, and not {length}")
         if view.nbytes <= PART_LEN:
             return self.file(tenant, view, address)
-        parts = (view[at : at + PART_LEN] for at in range(0, view.nbytes, PART_LEN))
-        return self._upload_parts(Upload(self, view.nbytes), tenant, None, parts, address)
+        return self._upload_parts(Upload(self, view.nbytes), tenant, None, split(view), address)
 
     def open(self, tenant: int, address: str, buffering: int = RANGE_LEN) -> Union[io.BufferedReader, StoredObject]:
         """Opens an object as a file object for reading bytes, which can seek. `buffering` is the length of its buffer, 0 for none. Refusals: S1, S12."""
         check_number("buffering", buffering, 0, sys.maxsize)
-        raw = StoredObject(self, tenant, check_address(address))
+        raw = StoredObject(self, check_number("tenant", tenant), check_address(address))
         return io.BufferedReader(raw, buffering) if buffering else raw
 
     def run_lines(self, lines: Union[Buffer, BinaryIO]) -> int:
@@ -280,11 +272,8 @@ class Commands:
         with upload:
             # here an interrupt can't come between the begin and the block that ends the upload
             upload._begin(tenant, max_len, min_len)
-            while True:
-                batch = list(itertools.islice(parts, PARTS_AT_ONCE))
-                if not batch:
-                    return upload.seal(address)
-                upload._send(batch)
+            upload._send(parts)
+            return upload.seal(address)
 
     def _put_all(self, upload: int, offset: int, parts: List[memoryview]) -> None:
         """Puts a few parts one after another in one turn. All are sent before the first answer is read: the answers fit any pipe."""
@@ -318,9 +307,13 @@ class Commands:
         return self._in_turn(lambda session: read(session, *session.ask(form, line, content)))
 
 
-def fetch_line(tenant: int, address: str, offset: int, length: int) -> str:
-    """The command that fetches a range."""
-    return f"fetchb {check_number('tenant', tenant)} {check_address(address)} {check_number('offset', offset)} {check_number('length', length)}"
+def pages(read: Callable[[int], Any], at: int, length: int) -> Iterator[Any]:
+    """Yields what a function returns for each position from one on, `length` items at a time, until there are fewer."""
+    for start in itertools.count(at, length):
+        page = read(start)
+        yield page
+        if len(page) < length:
+            return
 
 
 def filed_of(values: Sequence[Any], address: Optional[str], length: Optional[int]) -> Filed:
@@ -329,3 +322,12 @@ def filed_of(values: Sequence[Any], address: Optional[str], length: Optional[int
     if address is not None and filed.address != address.lower() or length is not None and filed.length != length:
         raise ValueError(f"{filed.address} of {filed.length} bytes was filed, not what was asked for")
     return filed
+
+
+def leave_all() -> None:
+    """Leaves all stores to the parent of a new process."""
+    for store in list(opened):
+        store._leave()
+
+
+os.register_at_fork(after_in_child=leave_all)

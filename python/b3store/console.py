@@ -71,7 +71,7 @@ def error_text(fault: BaseException) -> str:
     """An error in a few words, without its class and number."""
     if isinstance(fault, OSError) and fault.strerror:
         return fault.strerror[:1].lower() + fault.strerror[1:]
-    return str(fault) or type(fault).__name__
+    return "out of memory" if isinstance(fault, MemoryError) else str(fault) or type(fault).__name__
 
 
 def fault_text(fault: BaseException) -> str:
@@ -118,7 +118,7 @@ def status_of(run: Callable[[], int]) -> int:
     except OSError as fault:
         report("cannot write: " + error_text(fault) if fault.filename is None else fault_text(fault))
     except (StoreError, MemoryError, ValueError) as fault:
-        report("out of memory" if isinstance(fault, MemoryError) else error_text(fault))
+        report(error_text(fault))
     drop_output()
     return FAILED
 

@@ -11,8 +11,8 @@ import sys
 from typing import Any, BinaryIO, Optional
 
 from .library import SIZE, U64, address_of, load
-from .transfers import read_full
-from .values import PART_LEN, Buffer, check_bytes, check_number
+from .transfers import parts_of
+from .values import Buffer, check_bytes, check_number
 
 SMALL_LEN = 1 << 12
 """Up to this many bytes are kept, and hashed by one call that keeps the interpreter's lock."""
@@ -133,9 +133,7 @@ def file_digest(file: BinaryIO) -> bytes:
     it doesn't return bytes."""
     if not hasattr(file, "read"):
         raise TypeError(f"a file must be open for reading bytes, unlike {type(file).__name__}")
-    hasher, room = blake3(), memoryview(bytearray(PART_LEN))
-    while True:
-        count = read_full(file, room)
-        hasher.update(room[:count])
-        if count < len(room):
-            return hasher.digest()
+    hasher = blake3()
+    for part in parts_of(file):
+        hasher.update(part)
+    return hasher.digest()

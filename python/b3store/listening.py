@@ -7,6 +7,7 @@ import stat
 import time
 from typing import Callable, List, Optional
 
+from .console import error_text
 from .files import FolderInUse, lock_folder
 from .values import StoreError
 
@@ -71,7 +72,7 @@ def listen_at(path: str) -> Listener:
         except FolderInUse:
             raise ListenError(f"cannot listen on {path}: its folder is in use by another server or a backup") from None
         except OSError as error:
-            raise ListenError(f"cannot listen on {path}: {error.strerror or error}") from None
+            raise ListenError(f"cannot listen on {path}: {error_text(error)}") from None
         failing.pop_all()
         return listener
 

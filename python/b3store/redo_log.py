@@ -11,10 +11,10 @@ import os
 import stat
 import threading
 import time
-from typing import BinaryIO, Callable, NamedTuple, Optional
+from typing import BinaryIO, Callable, Optional
 
 from . import TYPE_CHECKING
-from .console import count_text
+from .console import count_text, error_text
 from .files import FolderInUse, create_anew, lock_folder, opener_in
 from .redo import LogError, Tick, renew, run_lines
 from .commands import Commands
@@ -38,30 +38,6 @@ ERRORS = (OSError, StoreError, MemoryError, ValueError)
 
 class SaveError(StoreError):
     """A folder can't be used, or a store can't be saved in it or restored from it."""
-
-
-class Folder(NamedTuple):
-    """An open folder."""
-
-    path: str
-    number: int
-    """Its descriptor."""
-
-    def open(self, name: str, mode: str = "rb", buffering: int = -1) -> BinaryIO:
-        """Opens one of its files."""
-        return open(name, mode, buffering, opener=opener_in(self.number))  # type: ignore[return-value]
-
-    def status(self, name: str) -> os.stat_result:
-        """The status of a file. Raises OSError, and SaveError for a link and anything else that is no file."""
-        found = os.stat(name, dir_fd=self.number, follow_symlinks=False)
-        if not stat.S_ISREG(found.st_mode):
-            raise SaveError(f"{self.path}/{name} is not a file; nothing was changed")
-        return found
-
-    def remove(self, name: str) -> None:
-        """Removes a file, if there is one."""
-        with contextlib.suppress(FileNotFoundError):
-            os.unlink(name, dir_fd=self.number)
 
 
 class LogFile:
@@ -144,7 +120,7 @@ class RedoLog:
     def __init__(self, path: str, report: Callable[[str], None], syncs: bool = True) -> None:
         """Opens a folder, which is made if there is none. Raises SaveError, and changes nothing, if another process has it, or if it has other files and no
         log. If `syncs` is false, only `finish` syncs the log, and what is long. `report` is called with a line about what goes wrong later."""
-        self._report, self._syncs = report, syncs
+        self._path, self._report, self._syncs = path, report, syncs
         self._lock = threading.Lock()
         self._is_finished = self._is_folder_synced = self._is_restored = False
         self._new: Optional[LogFile] = None
@@ -155,41 +131,41 @@ class RedoLog:
         try:
             with contextlib.ExitStack() as failing:
                 self._folder = open_folder(path)
-                failing.callback(os.close, self._folder.number)
+                failing.callback(os.close, self._folder)
                 self._open()
                 failing.pop_all()
         except FolderInUse as error:
             raise SaveError(str(error)) from None
         except (OSError, MemoryError) as error:
-            raise SaveError(f"cannot use the folder {path}: {reason_of(error)}") from None
+            raise SaveError(f"cannot use the folder {path}: {error_text(error)}") from None
 
     def _open(self) -> None:
         """Opens the log, or makes one. A folder that can't be written to is noticed here."""
-        names = set(os.listdir(self._folder.number))
+        names = set(os.listdir(self._folder))
         if LOG not in names:
             if names - IGNORED:
-                raise SaveError(f"{self._folder.path} holds {min(names - IGNORED)!r} and no saved store: name a folder that is empty or doesn't exist")
-            create_anew(self._folder.number, LOG).close()
-        self._is_clean = CLEAN in names or not self._folder.status(LOG).st_size
-        self._log = LogFile(self._folder.open(LOG, "r+b", 0))
-        create_anew(self._folder.number, NEW_LOG).close()
-        self._folder.remove(NEW_LOG)
+                raise SaveError(f"{self._path} holds {min(names - IGNORED)!r} and no saved store: name a folder that is empty or doesn't exist")
+            create_anew(self._folder, LOG).close()
+        self._is_clean = CLEAN in names or not self._status(LOG).st_size
+        self._log = LogFile(open(LOG, "r+b", 0, opener=opener_in(self._folder)))
+        create_anew(self._folder, NEW_LOG).close()
+        self._remove(NEW_LOG)
 
     def restore(self, store: Commands, tick: Tick = lambda: None) -> Optional[str]:
         """Restores the store into a new one, and returns what it has; None if it has nothing. Removes an incomplete line at the log's end, and reports objects
         that are damaged, which aren't restored. Raises SaveError; then nothing in the folder was changed."""
-        path = f"{self._folder.path}/{LOG}"
+        path = f"{self._path}/{LOG}"
         try:
-            with self._folder.open(LOG) as file:
+            with open(LOG, "rb", opener=opener_in(self._folder)) as file:
                 length = run_lines(store, file, tick, lambda error: self._report(f"{path}: {error}: this object is damaged, and not restored"))
             counts = store.counts()
             torn, self._is_restored = self._log.begin(length, counts.entries), True
-            self._folder.remove(CLEAN)
+            self._remove(CLEAN)
         except LogError as error:
             advice = f"nothing was changed; `truncate -s {error.offset}` would keep the lines before it"
             raise SaveError(f"{path}: {error}; {advice}") from None
         except ERRORS as error:
-            raise SaveError(f"the store that is saved in {path} can't be restored: {reason_of(error)}") from None
+            raise SaveError(f"the store that is saved in {path} can't be restored: {error_text(error)}") from None
         if torn:
             self._report(f"{path} ended within a line: its last {count_text(torn, 'byte')} {'is' if torn == 1 else 'are'} removed")
         return (counts_text(counts) + ("" if self._is_clean else "; the last process was killed")) if counts.tenants else None
@@ -203,17 +179,17 @@ class RedoLog:
             try:
                 counts = self._append(store, lambda: None)
                 if self.fault:
-                    self._report(f"the log in {self._folder.path} is written again")
+                    self._report(f"the log in {self._path} is written again")
                 self.fault = ""
             except Exception as error:  # whatever it is, the store is used further
-                self.fault = self._reported(f"the log in {self._folder.path} can't be written: {reason_of(error)}", self.fault, error)
+                self.fault = self._reported(f"the log in {self._path} can't be written: {error_text(error)}", self.fault, error)
                 return False
             try:
                 if self._new is not None or self._pays(store, counts):
                     self._write_anew(store, counts, lambda: None, time.monotonic() + SECONDS_OF_WRITING)
             except Exception as error:
                 self._next_try = time.monotonic() + SECONDS_BETWEEN_TRIES
-                self._fault_anew = self._reported(f"the long log in {self._folder.path} can't be written anew: {reason_of(error)}", self._fault_anew, error)
+                self._fault_anew = self._reported(f"the long log in {self._path} can't be written anew: {error_text(error)}", self._fault_anew, error)
             return self._new is not None
 
     def _reported(self, fault: str, last: str, error: Exception) -> str:
@@ -240,12 +216,12 @@ class RedoLog:
                 counts = self._append(store, tick)
                 self._drop_new()
                 self._log.sync()
-                create_anew(self._folder.number, CLEAN).close()
+                create_anew(self._folder, CLEAN).close()
                 self._sync_folder()
             except ERRORS as error:
                 with contextlib.suppress(OSError):
-                    self._folder.remove(CLEAN)
-                raise SaveError(f"the store can't be saved in {self._folder.path}, which has what was saved before: {reason_of(error)}") from None
+                    self._remove(CLEAN)
+                raise SaveError(f"the store can't be saved in {self._path}, which has what was saved before: {error_text(error)}") from None
             self._is_finished = True
             return counts_text(counts)
 
@@ -255,7 +231,7 @@ class RedoLog:
             self._is_finished = True
             self._drop_new()
             self._log.file.close()
-            os.close(self._folder.number)
+            os.close(self._folder)
 
     def _append(self, store: Commands, tick: Tick) -> Counts:
         """Appends all that was changed until now, and returns what the store had then. A log that was removed, replaced or truncated, or that wasn't restored,
@@ -273,10 +249,22 @@ class RedoLog:
                 self._log.sync()
         return counts
 
+    def _status(self, name: str) -> os.stat_result:
+        """The status of a file. Raises OSError, and SaveError for a link and anything else that is no file."""
+        found = os.stat(name, dir_fd=self._folder, follow_symlinks=False)
+        if not stat.S_ISREG(found.st_mode):
+            raise SaveError(f"{self._path}/{name} is not a file; nothing was changed")
+        return found
+
+    def _remove(self, name: str) -> None:
+        """Removes a file, if there is one."""
+        with contextlib.suppress(FileNotFoundError):
+            os.unlink(name, dir_fd=self._folder)
+
     def _is_in_place(self) -> bool:
         """Whether the log is still the one that was opened."""
         with contextlib.suppress(OSError, SaveError):
-            found = self._folder.status(LOG)
+            found = self._status(LOG)
             return os.path.samestat(found, os.fstat(self._log.file.fileno())) and found.st_size >= self._log.length
         return False
 
@@ -291,12 +279,12 @@ class RedoLog:
         """Writes a new log until it has all that the store had, and puts it in place of the old one; or writes some of it."""
         try:
             if self._new is None:
-                self._new = LogFile(create_anew(self._folder.number, NEW_LOG))
+                self._new = LogFile(create_anew(self._folder, NEW_LOG))
             if not self._new.extend(store, max(counts.entries, self._log.entry), tick, end):
                 return
             self._new.sync()
-            self._folder.remove(CLEAN)
-            os.replace(NEW_LOG, LOG, src_dir_fd=self._folder.number, dst_dir_fd=self._folder.number)
+            self._remove(CLEAN)
+            os.replace(NEW_LOG, LOG, src_dir_fd=self._folder, dst_dir_fd=self._folder)
         except BaseException:
             self._drop_new()
             raise
@@ -308,7 +296,7 @@ class RedoLog:
 
     def _sync_folder(self) -> None:
         """Syncs the folder. Until that succeeds, what is appended isn't safe: after a crash of the machine the log before may be back."""
-        os.fsync(self._folder.number)
+        os.fsync(self._folder)
         self._is_folder_synced = True
 
     def _drop_new(self) -> None:
@@ -317,7 +305,7 @@ class RedoLog:
             self._new.file.close()
             self._new = None
             with contextlib.suppress(OSError):
-                self._folder.remove(NEW_LOG)
+                self._remove(NEW_LOG)
 
 
 def counts_text(counts: Counts) -> str:
@@ -325,14 +313,7 @@ def counts_text(counts: Counts) -> str:
     return f"{count_text(counts.objects, 'object')} and {count_text(counts.tenants, 'tenant')}"
 
 
-def reason_of(error: BaseException) -> str:
-    """Why something failed."""
-    if isinstance(error, MemoryError):
-        return "out of memory"
-    return getattr(error, "strerror", None) or str(error)
-
-
-def open_folder(path: str) -> Folder:
+def open_folder(path: str) -> int:
     """Opens and locks a folder, which is made if there is none. Raises OSError, FolderInUse, and SaveError for one that another user could change: what is
     saved could be replaced."""
     with contextlib.suppress(FileExistsError):
@@ -341,10 +322,10 @@ def open_folder(path: str) -> Folder:
             above = os.open(os.path.dirname(os.path.abspath(path)), os.O_RDONLY | os.O_DIRECTORY)
             ending.callback(os.close, above)
             os.fsync(above)
-    folder = Folder(path, lock_folder(path))
-    found = os.fstat(folder.number)
+    folder = lock_folder(path)
+    found = os.fstat(folder)
     is_own = found.st_uid == os.geteuid()
     if is_own and not found.st_mode & (stat.S_IWGRP | stat.S_IWOTH):
         return folder
-    os.close(folder.number)
+    os.close(folder)
     raise SaveError(f"{path} can be written to by others: chmod go-w {path}" if is_own else f"{path} belongs to another user: name a folder of your own")

@@ -32,9 +32,9 @@ import threading
 import time
 from typing import Callable, Deque, List, Optional, Set, TextIO, Tuple
 
-from .console import count_text, number, one_line, open_standard_files, size
+from .console import count_text, error_text, number, one_line, open_standard_files, size
 from .listening import Listener, ListenError, inherited, listen_at, more_time, notify
-from .redo_log import RedoLog, SaveError, reason_of
+from .redo_log import RedoLog, SaveError
 from .relay import Connection
 from .server_store import SECONDS_OF_SILENCE, StoreProcess, status_text
 from .values import MAX_SESSIONS, StoreError, half_of_memory
@@ -240,7 +240,7 @@ class Server:
                 write_line(sys.stdout, f"saved {log.finish(self._store, tick)}")
             return ""
         except Exception as error:  # whatever it is, the store is kept
-            return str(error) if isinstance(error, SaveError) else f"the store can't be saved: {reason_of(error)}"
+            return str(error) if isinstance(error, SaveError) else f"the store can't be saved: {error_text(error)}"
 
     def _tries_again(self, fault: str) -> bool:
         """Whether a save that failed is tried again. Reports why it failed, once, and again at the last time."""
@@ -281,7 +281,7 @@ class Server:
         except (BlockingIOError, ConnectionAbortedError):
             return
         except (OSError, MemoryError) as error:
-            report(f"a connection can't be accepted: {reason_of(error)}")
+            report(f"a connection can't be accepted: {error_text(error)}")
             time.sleep(1)
 
 

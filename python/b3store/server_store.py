@@ -15,6 +15,7 @@ import threading
 import time
 from typing import Any, Callable, Iterator, List, NamedTuple, Optional, TypeVar
 
+from .console import error_text
 from .files import FolderInUse, lock_folder
 from .sessions import Session, set_pipe_size
 from .commands import Commands
@@ -84,7 +85,7 @@ class StoreProcess(Commands):
             # In its own session, so that an interrupt at a terminal reaches only the server.
             self._process: Any = subprocess.Popen(words, stdin=subprocess.PIPE, stdout=subprocess.PIPE, start_new_session=True)
         except OSError as error:
-            raise StoreError(f"cannot start {program}: {error.strerror}") from None
+            raise StoreError(f"cannot start {program}: {error_text(error)}") from None
         self._commands, self._answers = self._process.stdin, self._process.stdout
         self._session, self._is_started = Session(self._commands, self._answers, "the store has ended"), True
         try:

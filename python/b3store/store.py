@@ -3,16 +3,14 @@ import contextlib
 import ctypes
 import functools
 import io
-import os
 import threading
-import weakref
 from typing import Any, Callable, List, Optional, Tuple, TypeVar
 
 from .library import BOUND, NONE, PROGRESS, SEALED, SIZE, U64, WHY, Handle, Result, address_of, load, new_bytes, refusal_of
 from .sessions import READ_LEN, Session
-from .commands import Commands
-from .transfers import Upload
-from .values import MAX_UPLOAD_LEN, PART_LEN, Buffer, Filed, Held, Refused, check_address, check_bytes, check_number, check_room
+from .commands import Commands, opened
+from .transfers import Upload, split
+from .values import Buffer, Filed, Held, Refused, check_room
 
 FUNCTIONS = (
     "b3store_begin", "b3store_begin_open", "b3store_close", "b3store_fetch", "b3store_file", "b3store_len", "b3store_lines", "b3store_open", "b3store_plan",
@@ -88,8 +86,7 @@ class Store(Commands):
         self._library, self._small = loaded()
         self._lock = threading.Lock()
         # what calls store is read before the lock is released
-        self._sealed, self._why, self._left = Result(SEALED), Result(WHY), U64(NONE)
-        self._left_at, self._work_at = ctypes.byref(self._left), ctypes.byref(U64())
+        self._why, self._work_at = Result(WHY), ctypes.byref(U64())
         self._at = ctypes.byref(Handle())
         self._call(self._small.b3store_open, U64(MAX_TENANTS), U64(MAX_ENTRIES), U64(WORKERS))
         opened.add(self)
@@ -103,45 +100,32 @@ class Store(Commands):
         with self._lock:
             self._library.b3store_close(self._at)
 
-    def file(self, tenant: int, content: Buffer, address: Optional[str] = None) -> Filed:
-        """Files content. If an address is given, content with another address is refused.
-        Refusals: those of `begin`, `put` and `seal_as`; after a refusal nothing is left of it."""
-        view, tenant = check_bytes(content), check_number("tenant", tenant)
+    def _file(self, tenant: int, view: memoryview, address: Optional[str]) -> Filed:
         if address is None and view.nbytes <= SMALL_LEN:
-            return self._file_small(tenant, content if type(content) is bytes else view.tobytes())
-        address = None if address is None else check_address(address)
-        parts = (view[at : at + PART_LEN] for at in range(0, view.nbytes, PART_LEN))
-        return self._upload_parts(Upload(self, view.nbytes), tenant, None, parts, address)
+            return self._file_small(tenant, view.tobytes())
+        return self._upload_parts(Upload(self, view.nbytes), tenant, None, split(view), address)
 
     def _file_small(self, tenant: int, content: bytes) -> Filed:
-        with self._lock:
-            answer = self._small.b3store_file(
-                self._at, U64(tenant), content, SIZE(len(content)), self._sealed.at, self._left_at, self._why.at, self._work_at
-            )
-            digest, is_new = self._sealed.read()
-            fault = refusal_of(answer, *self._why.read()) if answer else None
-        if fault is not None:
-            self._abort_left()
-            raise fault
+        sealed, left = Result(SEALED), U64(NONE)
+        words = U64(tenant), content, SIZE(len(content)), sealed.at, ctypes.byref(left), self._why.at, self._work_at
+        try:
+            self._call(self._small.b3store_file, *words)
+        except Refused:
+            # an upload whose abort was refused too
+            if left.value != NONE:
+                self.abort(left.value)
+            raise
+        digest, is_new = sealed.read()
         return Filed(is_new == 1, digest.hex(), len(content))
 
-    def _abort_left(self) -> None:
-        """Aborts the upload that a refused call left open, as its abort was refused too."""
-        with self._lock:
-            left, self._left.value = self._left.value, NONE
-        if left != NONE:
-            self.abort(left)
-
-    def put(self, upload: int, offset: int, part: Buffer) -> Held:
-        """Adds a part to an upload. Refusals: S7, F2 to F6, S9, S15."""
-        view, number, first = check_bytes(part), U64(check_number("upload", upload)), U64(check_number("offset", offset))
-        bound, progress = Result(BOUND), Result(PROGRESS)
+    def _put(self, upload: int, offset: int, view: memoryview) -> Held:
+        number, bound, progress = U64(upload), Result(BOUND), Result(PROGRESS)
         self._call(self._small.b3store_plan, number, bound.at, self._why.at)
         length, is_open = bound.read()
         at, close = ctypes.byref(Handle()), self._small.b3store_close
         try:
             count, start = view.nbytes, ctypes.c_void_p(address_of(view))
-            answer = self._calls_for(count).b3store_prepare(at, U64(length), ctypes.c_bool(is_open), first, start, SIZE(count), ctypes.byref(U64()))
+            answer = self._calls_for(count).b3store_prepare(at, U64(length), ctypes.c_bool(is_open), U64(offset), start, SIZE(count), ctypes.byref(U64()))
             if answer:
                 raise refusal_of(answer)
             self._call(self._small.b3store_put, number, at, progress.at, self._why.at, self._work_at)
@@ -152,26 +136,21 @@ class Store(Commands):
 
     def _put_all(self, upload: int, offset: int, parts: List[memoryview]) -> None:
         for part in parts:
-            self.put(upload, offset, part)
+            self._put(upload, offset, part)
             offset += part.nbytes
 
-    def fetch(self, tenant: int, address: str, offset: int = 0, length: int = MAX_UPLOAD_LEN) -> bytes:
-        """Returns up to `length` bytes of an object, starting at `offset`; by default all. Refusals: S1, S12."""
-        content: bytes = self._read(tenant, address, offset, check_number("length", length))[0]
+    def _fetch(self, tenant: int, address: str, offset: int, length: int) -> bytes:
+        content: bytes = self._read(tenant, address, offset, length)[0]
         return content
 
-    def fetch_into(self, tenant: int, address: str, room: Buffer, offset: int = 0) -> int:
-        """Reads an object's bytes, starting at `offset`, into a writable buffer, and returns how many it read. These are fewer than the buffer has room for
-        only at the object's end. Refusals: S1, S12."""
-        view = check_room(room)
+    def _read_into(self, tenant: int, address: str, view: memoryview, offset: int, min_len: int = 0) -> int:
         return self._read(tenant, address, offset, view.nbytes, ctypes.c_void_p(address_of(view)))[1]
 
     def _read(self, tenant: int, address: str, offset: int, length: int, room: Any = None) -> Tuple[Any, int]:
         """Reads bytes of an object into memory, or into new bytes. Returns these, and how many were read."""
-        owner, name, offset = U64(check_number("tenant", tenant)), bytes.fromhex(check_address(address)), check_number("offset", offset)
         at, close = ctypes.byref(Handle()), self._small.b3store_close
         try:
-            self._call(self._small.b3store_fetch, owner, name, at, self._why.at)
+            self._call(self._small.b3store_fetch, U64(tenant), bytes.fromhex(address), at, self._why.at)
             return self._copy(at, offset, length, room)
         finally:
             close(at)
@@ -184,9 +163,6 @@ class Store(Commands):
         content = new_bytes(None, count) if room is None else room
         self._calls_for(count).b3store_read(at, U64(offset), content, SIZE(count), ctypes.byref(size))
         return content, count
-
-    def _fill(self, tenant: int, address: str, view: memoryview, offset: int) -> None:
-        self.fetch_into(tenant, address, view, offset)
 
     def _begin(self, word: str, tenant: int, length: int) -> int:
         number = U64(NONE)
@@ -215,14 +191,6 @@ class Store(Commands):
     def _in_turn(self, work: Callable[[Session], Value]) -> Value:
         return work(Lines(self))
 
-
-opened: "weakref.WeakSet[Store]" = weakref.WeakSet()
-
-
-def leave_all() -> None:
-    """Leaves the stores to the parent of a new process, in which no call of the library may be made on them."""
-    for store in list(opened):
-        store._at, store._lock = Store._at, threading.Lock()
-
-
-os.register_at_fork(after_in_child=leave_all)
+    def _leave(self) -> None:
+        # here no call of the library may be made on it
+        self._at, self._lock = Store._at, threading.Lock()

@@ -5,7 +5,7 @@ import operator
 import os
 import stat
 from types import TracebackType
-from typing import Any, Iterator, List, Optional, Type
+from typing import Any, Iterator, Optional, Type
 
 from . import TYPE_CHECKING
 from .values import PART_LEN, Buffer, Ended, Filed, Refused, check_address, check_bytes, check_room
@@ -119,18 +119,16 @@ class Upload:
                 return
             self._send_kept()
         end = start + (view.nbytes - start) // PART_LEN * PART_LEN
-        if end > start:
-            self._send([view[at : at + PART_LEN] for at in range(start, end, PART_LEN)])
+        self._send(split(view[start:end]))
         self._kept += view[end:]
 
     def _send_kept(self) -> None:
         kept, self._kept = self._kept, bytearray()
-        self._send([memoryview(kept)])
+        self._send(split(memoryview(kept)))
 
-    def _send(self, parts: List[memoryview]) -> None:
+    def _send(self, parts: Iterator[memoryview]) -> None:
         """Sends parts, a few in each turn. After a failure the upload has to be aborted."""
-        for start in range(0, len(parts), PARTS_AT_ONCE):
-            batch = parts[start : start + PARTS_AT_ONCE]
+        for batch in iter(lambda: list(itertools.islice(parts, PARTS_AT_ONCE)), []):
             self._commands._put_all(self.number, self._sent, batch)
             self._sent += sum(part.nbytes for part in batch)
 
@@ -173,25 +171,22 @@ class StoredObject(io.RawIOBase):
 
     def readinto(self, room: Any) -> int:
         """Reads into a writable buffer, and returns how many bytes it read: fewer than there is room for only at the end. Refusals: S1, S12."""
-        self._check_open()
+        if self.closed:
+            raise ValueError("the file is closed")
         view = check_room(room)[: max(0, self.size - self._at)]
         if view.nbytes:
-            self._commands._fill(self._tenant, self.address, view, self._at)
+            self._commands._read_into(self._tenant, self.address, view, self._at, view.nbytes)
             self._at += view.nbytes
         return view.nbytes
 
     def readall(self) -> bytes:
         """Reads all bytes up to the end. Refusals: S1, S12."""
-        self._check_open()
-        content = bytearray(max(0, self.size - self._at))
-        with memoryview(content) as view:
-            for start in range(0, len(content), PART_LEN):
-                self.readinto(view[start : start + PART_LEN])
-        return bytes(content)
+        return b"".join(iter(lambda: self.read(PART_LEN) or b"", b""))
 
-    def _check_open(self) -> None:
-        if self.closed:
-            raise ValueError("the file is closed")
+
+def split(view: memoryview) -> Iterator[memoryview]:
+    """The parts of bytes that are in memory."""
+    return (view[at : at + PART_LEN] for at in range(0, view.nbytes, PART_LEN))
 
 
 def is_file(content: Any) -> bool:
@@ -203,46 +198,33 @@ def is_file(content: Any) -> bool:
         return hasattr(content, "read")
 
 
-def read_full(file: Any, room: memoryview) -> int:
-    """Reads from a file until a buffer is full or the file ends, and returns the number of bytes. Raises TypeError if the file doesn't return bytes,
-    and BlockingIOError if it is not in blocking mode and has none."""
-    count, read = 0, file.readinto if hasattr(file, "readinto") else lambda view: read_into(file, view)
-    while count < room.nbytes:
-        got = read(room[count:])
-        if got is None:
+def read_part(file: Any, length: int) -> memoryview:
+    """Reads up to `length` bytes of a file, fewer only at its end. Raises TypeError if the file doesn't return bytes, and BlockingIOError if it is not in
+    blocking mode and has none."""
+    pieces, left = [], length
+    while left:
+        piece = file.read(left)
+        if piece is None:
             raise BlockingIOError("the file has no bytes now: set it to blocking mode")
-        if not 0 <= got <= room.nbytes - count:
-            raise ValueError(f"the file read {got} bytes instead of {room.nbytes - count}")
-        if got == 0:
+        pieces.append(check_bytes(piece))
+        left -= pieces[-1].nbytes
+        if left < 0:
+            raise ValueError(f"the file read {-left} bytes too many")
+        if not pieces[-1].nbytes:
             break
-        count += got
-    return count
+    return pieces[0] if len(pieces) == 1 else memoryview(b"".join(pieces))
 
 
-def read_into(file: Any, view: memoryview) -> Optional[int]:
-    """The same as a file's `readinto`, for one that has only `read`."""
-    piece = file.read(view.nbytes)
-    if piece is None:
-        return None
-    got = check_bytes(piece)
-    if got.nbytes <= view.nbytes:
-        view[: got.nbytes] = got
-    return got.nbytes
-
-
-def parts_of(file: Any, limit: Optional[int], length: Optional[int]) -> Iterator[memoryview]:
-    """Yields the parts of a file's remaining bytes, up to `limit` bytes in all. Raises ValueError if they are fewer than `length`. The memory of a part is used
-    again for the one PARTS_AT_ONCE later."""
-    rooms, at = [memoryview(bytearray(PART_LEN if limit is None else min(limit, PART_LEN)))], 0
-    for number in itertools.count(1):
-        room = rooms[-1] if limit is None else rooms[-1][: limit - at]
-        count = read_full(file, room)
-        at += count
-        if count:
-            yield room[:count]
-        if count < PART_LEN or at == limit:
+def parts_of(file: Any, limit: Optional[int] = None, length: Optional[int] = None) -> Iterator[memoryview]:
+    """Yields the parts of a file's remaining bytes, up to `limit` bytes in all. Raises ValueError if they are fewer than `length`."""
+    at = 0
+    while limit is None or at < limit:
+        part = read_part(file, PART_LEN if limit is None else min(PART_LEN, limit - at))
+        at += part.nbytes
+        if part.nbytes:
+            yield part
+        if part.nbytes < PART_LEN:
             break
-        rooms.append(memoryview(bytearray(PART_LEN)) if number < PARTS_AT_ONCE else rooms.pop(0))
     if length is not None and at < length:
         raise ValueError(f"the file ends after {at} of {length} bytes")
 

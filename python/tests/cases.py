@@ -9,13 +9,14 @@ import stores
 import transfers
 
 FUNCTIONS = (
-    stores.each_command, stores.each_refusal, stores.wrong_arguments, stores.some_entries, stores.refusals_are_values, stores.buffers_of_all_kinds, stores.by_threads, stores.closed_stores, stores.stores_after_a_fork, stores.memory_that_is_freed,
+    stores.each_command, stores.each_refusal, stores.wrong_arguments, stores.refusals_are_values,
+    stores.buffers_of_all_kinds, stores.by_threads, stores.closed_stores, stores.stores_after_a_fork, stores.memory_that_is_freed,
     stores.stores_without_memory, stores.interrupts_at_any_moment,
     transfers.uploads_of_all_sources, transfers.uploads_that_fail, transfers.uploads_side_by_side, transfers.files_that_go_one_way,
     transfers.uploads_with_blocks, transfers.writes_after_a_refusal, transfers.slow_files, transfers.objects_as_files, transfers.reads_into_buffers,
     transfers.iterates, transfers.by_asyncio, transfers.scales,
     redoing.redone, redoing.lines_that_are_run, redoing.pages_of_objects, redoing.renewed_stores, redoing.logs_of_stores,
-    served.over_a_socket, served.over_a_forwarded_socket, served.servers_that_pass_no_pipes, served.over_several_runs, served.over_several_connections,
+    served.over_a_socket, served.over_a_forwarded_socket, served.servers_that_pass_no_pipes, served.over_several_runs,
     served.places_that_are_wrong, served.servers_that_end, served.clients_that_are_closed,
     served.commands_that_are_interrupted, served.interrupts_at_any_moment, served.commands_that_take_too_long,
     hostile.answers_that_lie, hostile.gets_that_fail, hostile.gets_that_are_ended, hostile.processes_that_inherit,

@@ -8,6 +8,7 @@ import random
 import sys
 import tempfile
 import timeit
+from pathlib import Path
 
 from shared import ABC, EMPTY, check, in_threads, raised
 from judging import judged
@@ -32,8 +33,7 @@ def equal_ways():
     with tempfile.TemporaryDirectory() as place:
         for length in LENGTHS:
             content, path = content_of(length), os.path.join(place, "file")
-            with open(path, "wb") as file:
-                file.write(content)
+            Path(path).write_bytes(content)
             digest, hasher = blake3(content).digest(), blake3()
             for start in range(0, length, 1 + length // 3):
                 hasher.update(content[start : start + 1 + length // 3])

@@ -12,6 +12,7 @@ import tempfile
 import threading
 import time
 import warnings
+from pathlib import Path
 
 from served import server_of
 from bridge import SESSIONS, Bridge, client_of_a_server, over_both
@@ -84,8 +85,7 @@ def gets_that_fail():
     """The old file stays as it is, and no part of a new one is left."""
     with server_of(b"has 3\n", b"bytes 2\nab") as path, tempfile.TemporaryDirectory() as place:
         file = os.path.join(place, "file")
-        with open(file, "wb") as old:
-            old.write(b"old")
+        Path(file).write_bytes(b"old")
         words = [sys.executable, "-m", "b3store", "--socket", path, "get", "--tenant", "0", ABC, "-o", file]
         ran = subprocess.run(words, cwd=os.path.join(TOP, "python"), stdout=subprocess.PIPE, stderr=subprocess.PIPE, timeout=SECONDS)
         with open(file, "rb") as old:

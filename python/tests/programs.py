@@ -14,17 +14,26 @@ from shared import ABC, EMPTY, FOUR, SECONDS, TOP, check, wait_until
 from served import server_of
 from transfers import PART_LEN, content_of
 import b3store
+from pathlib import Path
 from b3store import Client
 from b3store.values import half_of_memory
 
 PACKAGE = os.path.join(TOP, "python")
 
 
-def run(words, data=b"", **variables):
+def environment(**variables):
+    return {**os.environ, "PYTHONPATH": PACKAGE, "PYTHONDONTWRITEBYTECODE": "1", **variables}
+
+
+def run(words, data=b"", command=(sys.executable, "-m", "b3store"), prepare=None, **variables):
     """The status, standard output and standard error of a run."""
-    environment = {**os.environ, "PYTHONPATH": PACKAGE, "PYTHONDONTWRITEBYTECODE": "1", **variables}
-    ran = subprocess.run([sys.executable, "-m", "b3store", *words], input=data, capture_output=True, timeout=SECONDS, env=environment)
+    ran = subprocess.run([*command, *words], input=data, capture_output=True, timeout=SECONDS, env=environment(**variables), preexec_fn=prepare)
     return ran.returncode, ran.stdout, ran.stderr.decode()
+
+
+def run_in_shell(line):
+    """The same of a line of a shell, in which $0 is Python, without input."""
+    return run([], command=["bash", "-c", line, sys.executable])
 
 
 def puts_and_gets():
@@ -34,8 +43,7 @@ def puts_and_gets():
 
         odd, large, content = os.path.join(place, "a\\b"), os.path.join(place, "large"), content_of(9 * PART_LEN + 5)
         for path, inside in (odd, b"abc"), (large, content):
-            with open(path, "wb") as file:
-                file.write(inside)
+            Path(path).write_bytes(inside)
         status, out, err = client("put", odd, large)
         lines = out.decode().splitlines()
         check((status, 0), (err, ""), (lines[0], "\\" + ABC + "  " + odd.replace("\\", "\\\\")), (lines[1][64:], "  " + large))
@@ -92,8 +100,7 @@ def reserves_no_more_than_it_reads():
         tenant, content = store.tenant(1 << 30), content_of(9 * PART_LEN + 5)
         for words, reserved in ([], 0), (["--max-len", "32M"], 32 << 20):
             command = [sys.executable, "-m", "b3store", "--socket", server.path, "put", *words, "-"]
-            environment = {**os.environ, "PYTHONPATH": PACKAGE, "TMPDIR": place}
-            with subprocess.Popen(command, stdin=subprocess.PIPE, stdout=subprocess.PIPE, env=environment) as put:
+            with subprocess.Popen(command, stdin=subprocess.PIPE, stdout=subprocess.PIPE, env=environment(TMPDIR=place)) as put:
                 put.stdin.write(content[: 8 * PART_LEN])
                 put.stdin.flush()
                 check((wait_until(lambda: bool(store.uploads(tenant)), SECONDS if reserved else 1), reserved > 0), (store.usage(tenant).reserved, reserved), (os.listdir(place), []))
@@ -114,17 +121,15 @@ def keeps_on_a_full_disk(server, place):
     def limited():
         resource.setrlimit(resource.RLIMIT_FSIZE, (1 << 20, resource.RLIM_INFINITY))
 
-    words, content = [sys.executable, "-m", "b3store", "--socket", server.path, "put", "-"], bytes((64 << 20) + 1)
-    ran = subprocess.run(words, input=content, capture_output=True, timeout=SECONDS, env={**os.environ, "PYTHONPATH": PACKAGE, "TMPDIR": place}, preexec_fn=limited)
-    check((ran.returncode, 1), (ran.stdout, b""), (ran.stderr, b"b3store: -: file too large\n"), (os.listdir(place), []))
+    ran = run(["--socket", server.path, "put", "-"], bytes((64 << 20) + 1), prepare=limited, TMPDIR=place)
+    check((ran, (1, b"", "b3store: -: file too large\n")), (os.listdir(place), []))
 
 
 def names_of_all_bytes():
     """A line has the bytes of the name that was given, whatever encoding Python is told to write."""
     with tempfile.TemporaryDirectory() as place, Bridge() as server:
         path = os.path.join(os.fsencode(place), b"\xc3\xa9\xff")
-        with open(path, "wb") as file:
-            file.write(b"abc")
+        Path(os.fsdecode(path)).write_bytes(b"abc")
         for encoding in "utf-8", "latin-1", "ascii":
             check((run(["--socket", server.path, "put", path], PYTHONIOENCODING=encoding), (0, ABC.encode() + b"  " + path + b"\n", "")))
 
@@ -138,8 +143,7 @@ def outputs_of_all_kinds():
         os.mkfifo(pipe)
         reader = subprocess.Popen(["timeout", str(SECONDS), "cat", pipe], stdout=subprocess.PIPE)
         check((run([*get, pipe]), (0, b"", "")), (reader.communicate()[0], b"abc"), (run([*get, os.devnull]), (0, b"", "")))
-        with open(kept, "wb") as file:
-            file.write(b"kept")
+        Path(kept).write_bytes(b"kept")
         for target in kept, pipe, os.devnull, "/dev/stdout", "none", "link":
             os.symlink(target, link)
             check((run([*get, link]), (3, b"", f"b3store: {link}: it is a link: --follow writes to what it leads to, and - to standard output\n")))
@@ -178,22 +182,16 @@ def says_what_is_wrong():
 def fails_to_write(server, place):
     """An output that is full, one that is closed by its reader, and a server that ends."""
     large = os.path.join(place, "large")
-    with open(large, "wb") as file:
-        file.write(content_of(4 * PART_LEN))
+    Path(large).write_bytes(content_of(4 * PART_LEN))
     address = run(["--socket", server.path, "put", large])[1].decode()[:64]
     for words in ["ls"], ["get", address]:
-        line = f'"$0" -m b3store --socket {server.path} {" ".join(words)} > /dev/full'
-        ran = subprocess.run(["bash", "-c", line, sys.executable], capture_output=True, timeout=SECONDS, env={**os.environ, "PYTHONPATH": PACKAGE})
-        check((ran.returncode, 3), (ran.stderr.decode().endswith(": no space left on device\n"), True), (ran.stderr.count(b"\n"), 1))
-    ran = subprocess.run(["bash", "-c", '"$0" -m b3store --help > /dev/full', sys.executable], capture_output=True, timeout=SECONDS, env={**os.environ, "PYTHONPATH": PACKAGE})
-    check((ran.returncode, 3), (ran.stderr, b"b3store: cannot write: no space left on device\n"))
-    line = f'"$0" -m b3store --socket {server.path} get {address} | head -c 5 | wc -c'
-    ran = subprocess.run(["bash", "-c", line, sys.executable], capture_output=True, timeout=SECONDS, env={**os.environ, "PYTHONPATH": PACKAGE})
-    check((ran.stdout, b"5\n"), (ran.stderr, b""))
-    for closing, status, text in (">&-", 3, b"standard output is closed\n"), ("<&-", 1, b"standard input is closed\n"), ("2>&-", 1, b""):
-        line = f'"$0" -m b3store --socket {server.path} put - {"none" if closing[0] == "2" else ""} {closing}'
-        ran = subprocess.run(["bash", "-c", line, sys.executable], capture_output=True, stdin=subprocess.DEVNULL, timeout=SECONDS, env={**os.environ, "PYTHONPATH": PACKAGE})
-        check((ran.returncode, status), (ran.stderr[-len(text) :] if text else ran.stderr, text))
+        status, _, err = run_in_shell(f'"$0" -m b3store --socket {server.path} {" ".join(words)} > /dev/full')
+        check((status, 3), (err.endswith(": no space left on device\n"), True), (err.count("\n"), 1))
+    check((run_in_shell('"$0" -m b3store --help > /dev/full'), (3, b"", "b3store: cannot write: no space left on device\n")))
+    check((run_in_shell(f'"$0" -m b3store --socket {server.path} get {address} | head -c 5 | wc -c'), (0, b"5\n", "")))
+    for closing, status, text in (">&-", 3, "standard output is closed\n"), ("<&-", 1, "standard input is closed\n"), ("2>&-", 1, ""):
+        found, _, err = run_in_shell(f'"$0" -m b3store --socket {server.path} put - {"none" if closing[0] == "2" else ""} {closing}')
+        check((found, status), (err[-len(text) :] if text else err, text))
     with server_of(b"") as path:
         check((run(["--socket", path, "ls"]), (3, b"", f"b3store: {path} has closed the connection\n")))
 
@@ -203,9 +201,7 @@ def ends_on_an_interrupt():
     with Bridge() as server:
         words = [sys.executable, "-m", "b3store", "--socket", server.path, "put", "-"]
         # a shell's background job ignores interrupts, and so would its children
-        put = subprocess.Popen(words, stdin=subprocess.PIPE, stdout=subprocess.PIPE, stderr=subprocess.PIPE, env={**os.environ, "PYTHONPATH": PACKAGE},
-                               preexec_fn=lambda: signal.signal(signal.SIGINT, signal.SIG_DFL))
-        with put:
+        with subprocess.Popen(words, stdin=-1, stdout=-1, stderr=-1, env=environment(), preexec_fn=listen_to_signals) as put:
             put.stdin.write(bytes(9 * PART_LEN))
             put.stdin.flush()
             time.sleep(0.3)
@@ -223,10 +219,9 @@ def ends_while_it_starts():
         with tempfile.TemporaryDirectory() as place:
             with open(os.path.join(place, module + ".py"), "w", encoding="ascii") as file:
                 file.write("import os, signal\nos.kill(os.getpid(), signal.SIGINT)\n")
-            environment = {**os.environ, "PYTHONPATH": f"{place}:{PACKAGE}", "PYTHONDONTWRITEBYTECODE": "1"}
             for words in programs:
-                ran = subprocess.run([sys.executable, *words], capture_output=True, timeout=SECONDS, env=environment, preexec_fn=lambda: signal.signal(signal.SIGINT, signal.SIG_DFL))
-                check(((module, words, ran.returncode, ran.stdout, ran.stderr), (module, words, -signal.SIGINT, b"", b"")))
+                ran = run(words, command=[sys.executable], prepare=listen_to_signals, PYTHONPATH=f"{place}:{PACKAGE}")
+                check(((module, words, ran), (module, words, (-signal.SIGINT, b"", ""))))
 
 
 def starts_without(module):
@@ -238,7 +233,7 @@ def ends_while_it_ends():
     """A signal while the interpreter ends is no traceback either: an exit handler sends it."""
     for number in signal.SIGTERM, signal.SIGHUP, signal.SIGINT:
         text = f"import atexit, os, sys; from b3store import console, programs; programs.end_at_once(); atexit.register(os.kill, os.getpid(), {int(number)})"
-        check((run_text(text + "; sys.exit(console.finish(lambda: print('done') or 0))"), (-number, b"done\n", b"")))
+        check((run_text(text + "; sys.exit(console.finish(lambda: print('done') or 0))"), (-number, b"done\n", "")))
 
 
 def ends_at_signals_while_it_ends():
@@ -247,13 +242,12 @@ def ends_at_signals_while_it_ends():
     start = "import os, sys; from b3store import console, programs; programs.end_at_once(); end = lambda number: os.kill(os.getpid(), number); "
     for number in numbers:
         text = f"{start}console.report = lambda _: end({int(number)}); sys.exit(console.finish(lambda: int('x')))"
-        check((run_text(text), (128 + number, b"", b"")))
+        check((run_text(text), (128 + number, b"", "")))
         for second in numbers:
             text = f"{start}drop = console.drop_output; console.drop_output = lambda: (end({int(second)}), drop()); sys.exit(console.finish(lambda: end({int(number)})))"
-            check((run_text(text), (128 + number, b"", b"")))
+            check((run_text(text), (128 + number, b"", "")))
 
 
 def run_text(text):
     """The status, standard output and standard error of a program of Python, which no signal finds ignored."""
-    ran = subprocess.run([sys.executable, "-c", text], capture_output=True, timeout=SECONDS, env={**os.environ, "PYTHONPATH": PACKAGE}, preexec_fn=listen_to_signals)
-    return ran.returncode, ran.stdout, ran.stderr
+    return run(["-c", text], command=[sys.executable], prepare=listen_to_signals)

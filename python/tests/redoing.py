@@ -74,6 +74,7 @@ def lines_that_are_run(store):
     wrong = (
         (b"limit 0 50\nlimit 1 5\nlimit 0 40\n", 2, 11, "S1"), (b"fileas 0 %s 3\nabclimit 0 2\n" % ABC.encode(), 2, 79, "S4"),
         (b"fileas 0 %s 3\nabdlimit 0 30\n" % ABC.encode(), 1, 0, "S11"), (b"limit 0 50\nlist 0\n", 2, 11, None), (b"limit 0 50\n\nlimit 0 30\n", 2, 11, None),
+        (b"limit 0 50\ntenant 99999999999999999999\n", 2, 11, None), (b"limit 0 50\nlimit 0 " + b"1" * 300, 2, 11, None), (b"kept", 1, 0, None),
         (b"tenant 5 \n", 1, 0, None), (b"fileas 0 %s %d\n" % (ABC.encode(), 1 << 50), 1, 0, None), (b"\n", 1, 0, None), (bytes(500), 1, 0, None),
         (b"limit 0 50\nfileas 0 %s 2000000\n%slimit 0 45\n" % (ABC.encode(), bytes(2_000_000)), 2, 11, "S6"),
     )

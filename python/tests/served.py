@@ -15,8 +15,8 @@ import threading
 import time
 
 from bridge import Bridge
-from shared import ABC, FOUR, SECONDS, TOP, Interrupted, alarms, check, ended, in_threads, interrupted_calls, raised, refusal, wait_until
-from b3store import Client, Ended, Filed, Held, Usage
+from shared import ABC, SECONDS, TOP, Interrupted, alarms, check, ended, in_threads, interrupted_calls, raised, refusal, wait_until
+from b3store import Client, Ended, Filed, Usage
 from b3store.client import PipeSession
 from b3store.sessions import Session
 from transfers import PART_LEN, content_of
@@ -25,16 +25,10 @@ from transfers import PART_LEN, content_of
 def over_a_socket():
     with Bridge() as server:
         with Client(server.path) as store:
-            tenant = store.tenant(1 << 30)
-            upload = store.begin(tenant, 3)
-            check((store.put(upload, 0, b"abc"), Held(3, None)), (store.seal(upload), Filed(True, ABC, 3)), (store.has(tenant, FOUR), None))
-            content = content_of(9 * PART_LEN + 3)
-            address = store.upload(io.BytesIO(content), tenant).address
-            check((store.fetch(tenant, address) == content, True), (b"".join(store.ranges(tenant, address, 1 << 20)) == content, True))
-            check((store.open(tenant, address).read() == content, True), (refusal(store.usage, 5), ("S1", None)), (store.alive, True))
+            check((store.file(store.tenant(50), b"abc"), Filed(True, ABC, 3)), (refusal(store.usage, 5), ("S1", None)), (store.alive, True))
         check((store.alive, False), (ended(store.stat), "the client was closed"), (store.close(), None))
         with Client(pathlib.Path(server.path), sessions=1) as store:
-            check((store.file(0, b"abc"), Filed(False, ABC, 3)), (store.usage(0), Usage(len(content) + 3, 0, 1 << 30)))
+            check((store.file(0, b"abc"), Filed(False, ABC, 3)), (store.usage(0), Usage(3, 0, 50)))
 
 
 def over_several_runs():
@@ -50,20 +44,6 @@ def over_several_runs():
         finally:
             os.chdir(before)
         check((list(store.tenants()), [0]), (store.list(0), {ABC: 3}))
-
-
-def over_several_connections():
-    """Each thread finds what the others did."""
-    with Bridge() as server, Client(server.path, sessions=4) as store:
-        tenant, contents = store.tenant(1 << 30), [content_of(200000 * number) for number in range(8)]
-
-        def work(number):
-            address = store.upload(contents[number], tenant).address
-            return all(store.fetch(tenant, store.file(tenant, content).address) == content for content in contents) and address in store.list(tenant)
-
-        check((in_threads(work, 8), [True] * 8), (store.stat().objects, 8), (store.alive, True))
-        store._give_back([store._free.get(timeout=SECONDS) for _ in range(4)])
-        check((store.alive, True))
 
 
 @contextlib.contextmanager

@@ -30,6 +30,8 @@ def each_command(store):
     check(
         (tenant, 0), (upload, 0), (store.uploads(0), [OpenUpload(0, 3, 3, 0)]), (store.put(0, 0, b"abc"), Held(3, None)),
         (store.seal(0), Filed(True, ABC, 3)), (store.entries(), JOURNAL), (store.entries(2), JOURNAL[2:]), (store.entries(4), []),
+        (store.entries(2, 2), JOURNAL[2:]), (store.entries(1, 1), JOURNAL[1:2]), (store.entries(1, MAX_NUMBER), JOURNAL[1:]),
+        (store.entries(count=1), JOURNAL[:1]),
         (store.has(0, ABC), 3), (store.has(0, FOUR), None), (store.fetch(0, ABC), b"abc"), (store.fetch(0, ABC, 1, 1), b"b"),
         (store.fetch(0, ABC, 3), b""), (store.fetch(0, ABC, MAX_NUMBER), b""), (store.list(0), {ABC: 3}), (store.begin_open(0, 2048), 1),
         (store.put(1, 0, bytes(1024)), Held(1024, 1024)), (store.uploads(0), [OpenUpload(1, 2048, None, 1024)]), (store.usage(0), Usage(3, 2048, 4096)),
@@ -99,16 +101,6 @@ def wrong_arguments(store):
     )
 
 
-@over_both
-def some_entries(store):
-    """The journal in pieces."""
-    store.tenant(4096)
-    store.file(0, b"abc")
-    pieces = [store.entries(start, 2) for start in range(0, 6, 2)]
-    check((pieces, [JOURNAL[:2], JOURNAL[2:], []]), (store.entries(1, 1), JOURNAL[1:2]), (store.entries(1, MAX_NUMBER), JOURNAL[1:]))
-    check((store.entries(count=1), JOURNAL[:1]), (store.stat(), Totals(1, 3, 0, 0, 0)))
-
-
 def refusals_are_values():
     """A refusal is the same when it was copied or pickled, and says what it carries."""
     with Store() as store:
@@ -173,6 +165,8 @@ def by_threads():
     with Store() as store, client_of_a_server(sessions=4) as client:
         share(store)
         share(client)
+        client._give_back([client._free.get(timeout=SECONDS) for _ in range(4)])
+        check((client.alive, True))
 
 
 def closed_stores():

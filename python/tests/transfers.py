@@ -7,6 +7,7 @@ import os
 import random
 import tempfile
 import threading
+from pathlib import Path
 
 from bridge import client_of_a_server, over_both
 from shared import ABC, EMPTY, FOUR, SECONDS, Interrupted, check, interrupt, raised, refusal
@@ -48,16 +49,14 @@ def read_end_of_pipe(content):
 def sources_of(content, place):
     """The same content, with a length or without, from all that an upload takes."""
     path = os.path.join(place, "file")
-    with open(path, "wb") as file:
-        file.write(b"before" + content + b"after")
+    Path(path).write_bytes(b"before" + content + b"after")
     file = open(path, "rb")
     file.seek(6)
     yield from ((bytearray(content), None), (memoryview(content), len(content)), (io.BytesIO(content), None), (Reader(content), None))
     yield from ((Reader(content + b"more"), len(content)), (file, len(content)), (read_end_of_pipe(content), None))
     yield read_end_of_pipe(content), len(content)
     if content:
-        with open(path, "wb") as whole:
-            whole.write(content)
+        Path(path).write_bytes(content)
         with open(path, "r+b") as whole:
             yield whole, None
             yield mmap.mmap(whole.fileno(), 0), None
@@ -87,8 +86,8 @@ class Failing(Reader):
 
 
 class Lying(io.BytesIO):
-    def readinto(self, room):
-        return len(room) + 1
+    def read(self, count):
+        return bytes(count + 1)
 
 
 @over_both

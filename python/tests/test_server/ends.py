@@ -13,16 +13,13 @@ from typing import Any, List, Tuple
 
 from judging import SECONDS_TO_WAIT, check, wait_until
 from lines import SHORTLY
-from running import AS_MODULE, CLEAN, SECONDS, WITH_FEW_FILES, Client, Running, environment, fails, is_listening, is_running
+from running import AS_MODULE, CLEAN, RUN_SERVER, SECONDS, Client, Running, environment, fails, is_listening, is_running
+from saving import save_folder
 
-WITH_NOHUP = (
-    "import runpy, signal; signal.signal(signal.SIGHUP, signal.SIG_IGN); runpy.run_module('b3store.server', run_name='__main__', alter_sys=True)"
-)
-"""Words after `python -c` that run the server as nohup does."""
-
-
-STARVED_AT_FIRST = """
-import runpy, socket
+WITH_NOHUP = f"import signal; signal.signal(signal.SIGHUP, signal.SIG_IGN); {RUN_SERVER}"
+WITH_FEW_FILES = f"import resource; resource.setrlimit(resource.RLIMIT_NOFILE, (48, 48)); {RUN_SERVER}"
+STARVED_AT_FIRST = f"""
+import socket
 accept, left = socket.socket.accept, [1]
 def accept_or_fail(listening):
     left[0] -= 1
@@ -30,7 +27,7 @@ def accept_or_fail(listening):
         raise MemoryError
     return accept(listening)
 socket.socket.accept = accept_or_fail
-runpy.run_module('b3store.server', run_name='__main__', alter_sys=True)
+{RUN_SERVER}
 """
 """A server that has no memory for its first connection when it is to be accepted."""
 
@@ -74,15 +71,14 @@ def busy(program: str) -> None:
 def turns_in_order(program: str) -> None:
     """Those that wait have their turns in the order in which they came."""
     with Running(program, "--sessions", "2", "--wait", "60") as server:
-        clients, served = [server.client() for _ in range(10)], []
+        clients = [server.client() for _ in range(10)]
         for client in clients:
             client.send(b"stat\n")
-            time.sleep(0.02)
-        for number, client in enumerate(clients):
+        for client in clients:
+            # otherwise it has no turn before a later one ends
             client.answer()
-            served.append(number)
             client.close()
-        check((served, list(range(10))), (server.end(), CLEAN))
+        check((server.end(), CLEAN))
 
 
 def many_at_once(program: str) -> None:
@@ -109,12 +105,12 @@ def many_at_once(program: str) -> None:
 
 def too_few_files(program: str) -> None:
     """Connections for which there are no open files left are closed or wait, the server says so, and serves again once others have ended."""
-    with Running(program, "--sessions", "16", "--wait", "60", python=WITH_FEW_FILES) as server:
+    with Running(program, "--sessions", "16", "--wait", "60", python=["-c", WITH_FEW_FILES]) as server:
         with server.client() as first:
             first.ask("tenant 5000")
             first.ask("begin 0 5")
             clients = [server.client() for _ in range(60)]
-            check((wait_until(lambda: "Too many open files" in server.reported()), True))
+            check((wait_until(lambda: "too many open files" in server.reported()), True))
             for client in clients:
                 client.close()
 
@@ -136,47 +132,27 @@ def connections_without_memory(program: str) -> None:
         check((server.end(), (0, "b3store.server: a connection can't be accepted: out of memory\n", [])))
 
 
-def closed_streams(program: str) -> None:
-    """A server without standard streams, or whose output is full, serves its clients."""
-    for redirections in "<&- >&- 2>&-", ">&-", ">/dev/full 2>/dev/full":
-        with tempfile.TemporaryDirectory() as folder:
-            path = f"{folder}/socket"
-            words = [sys.executable, *AS_MODULE, "--socket", path, "--program", program]
-            shell = ["/bin/sh", "-c", f'exec "$@" {redirections}', "sh", *words]
-            with subprocess.Popen(shell, env=environment(folder, {}), start_new_session=True) as server:
-                check((wait_until(lambda: is_listening(path)), True))
-                with Client(path) as client:
-                    check((client.ask("tenants"), b"tenants 0\n"), (client.ends(), b""))
-                server.terminate()
-                check((server.wait(SECONDS), 0), (os.listdir(folder), []))
-
-
-def _full_pipe(stack: contextlib.ExitStack) -> int:
-    """A pipe that has no room, and that nobody reads."""
-    reading, writing = os.pipe()
-    stack.callback(os.close, reading)
-    stack.callback(os.close, writing)
-    os.set_blocking(writing, False)
+def streams_that_take_nothing(program: str) -> None:
+    """A server without standard streams, or whose output is full, or is a pipe that nobody reads, serves its clients, and saves."""
+    reading, full = os.pipe()
+    os.set_blocking(full, False)
     with contextlib.suppress(BlockingIOError):
         while True:
-            os.write(writing, bytes(4096))
-    os.set_blocking(writing, True)
-    return writing
-
-
-def streams_without_room(program: str) -> None:
-    """What a server can't report, since nobody reads its streams, keeps no client out, and doesn't keep it from saving."""
-    with tempfile.TemporaryDirectory() as folder, contextlib.ExitStack() as stack:
-        path, full = f"{folder}/socket", _full_pipe(stack)
-        words = ["--socket", path, "--save", f"{folder}/saved", "--grace", "0"]
-        command = [sys.executable, *AS_MODULE, "--program", program, *words]
-        server = stack.enter_context(subprocess.Popen(command, stdout=full, stderr=full, env=environment(folder, {})))
-        stack.callback(server.kill)
-        check((wait_until(lambda: is_listening(path)), True))
-        with Client(path) as client:
-            check((client.ask("tenants"), b"tenants 0\n"))
-            server.terminate()
-            check((server.wait(SECONDS), 0), (os.path.exists(path), False))
+            os.write(full, bytes(4096))
+    os.set_blocking(full, True)
+    for redirections in "<&- >&- 2>&-", ">&-", ">/dev/full 2>/dev/full", "":
+        with tempfile.TemporaryDirectory() as folder:
+            path = f"{folder}/socket"
+            words = [sys.executable, *AS_MODULE, "--socket", path, "--program", program, "--save", f"{folder}/saved", "--grace", "0"]
+            shell = ["/bin/sh", "-c", f'exec "$@" {redirections}', "sh", *words]
+            with subprocess.Popen(shell, stdout=full, stderr=full, env=environment(folder, {}), start_new_session=True) as server:
+                check((wait_until(lambda: is_listening(path)), True))
+                with Client(path) as client:
+                    check((client.ask("tenants"), b"tenants 0\n"))
+                    server.terminate()
+                    check((server.wait(SECONDS), 0), (os.listdir(folder), ["saved"]))
+    os.close(reading)
+    os.close(full)
 
 
 def too_large_for_the_store(program: str) -> None:
@@ -200,23 +176,10 @@ def too_large_for_the_store(program: str) -> None:
 
 def wrong_words(program: str) -> None:
     """Each has status 2 and a line that names it."""
-    for words, wanted in (
-        (["--sessions", "0"], "'0'"),
-        (["--sessions", "65"], "'65'"),
-        (["--sessions", "4.5"], "'4.5'"),
-        (["--wait", "-1"], "'-1'"),
-        (["--wait", "nan"], "'nan'"),
-        (["--grace", "inf"], "'inf'"),
-        (["--grace", "soon"], "'soon'"),
-        (["--memory", "much"], "'much'"),
-        (["--memory", "5P"], "'5P'"),
-        (["--frob"], "--frob"),
-        (["--tcp", "127.0.0.1:0"], "--tcp"),
-        (["--save", ""], "--save is empty"),
-        (["--socket", ""], "--socket is empty"),
-        (["--program", ""], "--program is empty"),
-        (["more"], "more"),
-    ):
+    numbers = "sessions 0", "sessions 65", "sessions 4.5", "wait -1", "wait nan", "grace inf", "grace soon", "memory much", "memory 5P"
+    empty = [([f"--{name}", ""], f"--{name} is empty") for name in ("save", "socket", "program")]
+    others = [(["--frob"], "--frob"), (["--tcp", "127.0.0.1:0"], "--tcp"), (["more"], "more")]
+    for words, wanted in (*((f"--{text}".split(), repr(text.split()[1])) for text in numbers), *empty, *others):
         status, told = fails("--program", program, "--socket", "/nowhere/at/all", *words)
         check((status, 2), (wanted in told and "Traceback" not in told, True))
     check((fails("--program", program), (1, "b3store.server: nothing to listen on: give --socket PATH\n")))
@@ -235,7 +198,7 @@ def files_of_sockets(program: str) -> None:
         with open(server.path, "w", encoding="ascii") as file:
             file.write("kept")
         check((fails(*words, server.path), (1, f"b3store.server: {server.path} exists and is not a socket\n")))
-        check((fails(*words, f"{server.folder}/a/b"), (1, f"b3store.server: cannot listen on {server.folder}/a/b: No such file or directory\n")))
+        check((fails(*words, f"{server.folder}/a/b"), (1, f"b3store.server: cannot listen on {server.folder}/a/b: no such file or directory\n")))
         status, told = fails(*words, f"{server.folder}/{'a' * 120}")
         check((status, 1), ("path too long" in told and told.count("\n") == 1, True))
         check((server.end(), (0, "", ["other", "socket"])))
@@ -263,7 +226,7 @@ def programs_that_are_none(program: str) -> None:
     """A program that is missing, can't be run, ends at once or is no store: one line, status 1, and nothing is left."""
     del program
     for text, wanted in (
-        (None, "cannot start {}: No such file or directory"),
+        (None, "cannot start {}: no such file or directory"),
         ("exit 3\n", "{} ended with status 3 before it answered"),
         ("kill -9 $$\n", "{} ended with status -9, killed by SIGKILL before it answered"),
         ("exec cat\n", "{} is not a store: the program answered b'stat\\n' to stat"),
@@ -294,11 +257,9 @@ def ends_in_time(program: str) -> None:
 
 
 def ends_by_force(program: str) -> None:
-    """A connection that is open after the grace is ended; a second signal ends the wait; SIGINT and SIGHUP have the same effect as SIGTERM."""
-    for numbers, grace, wanted in (
-        ([signal.SIGTERM], "1", 1.0), ([signal.SIGTERM] * 2, "60", 0.0), ([signal.SIGINT] * 2, "60", 0.0), ([signal.SIGHUP] * 2, "60", 0.0),
-        ([signal.SIGTERM], "0", 0.0),
-    ):
+    """A connection that is open after the grace is ended; a second signal ends the wait; each of four signals has the same effect."""
+    twice = [([number] * 2, "60", 0.0) for number in (signal.SIGTERM, signal.SIGINT, signal.SIGHUP, signal.SIGQUIT)]
+    for numbers, grace, wanted in (([signal.SIGTERM], "1", 1.0), ([signal.SIGTERM], "0", 0.0), *twice):
         with Running(program, "--grace", grace) as server, server.client() as client, server.client() as silent:
             client.ask("tenant 1000000000")
             address = client.file(bytes(1 << 20))
@@ -315,30 +276,28 @@ def ends_by_force(program: str) -> None:
             check((wanted <= time.monotonic() - start < wanted + SECONDS_TO_WAIT, True))
 
 
-def hangs_up(program: str) -> None:
-    """Under nohup SIGHUP has no effect."""
+def signals_without_effect(program: str) -> None:
+    """SIGHUP under nohup, and signals that are for something else."""
     with Running(program, python=["-c", WITH_NOHUP]) as server, server.client() as client:
-        server.signal(signal.SIGHUP)
+        for number in signal.SIGHUP, signal.SIGUSR1, signal.SIGUSR2, signal.SIGALRM, signal.SIGVTALRM, signal.SIGPROF, signal.SIGIO:
+            os.killpg(server.process.pid, number)
         time.sleep(SHORTLY)
         check((client.ask("tenants"), b"tenants 0\n"), (client.ends(), b""), (server.end(), CLEAN))
 
 
-def _notified(listening: socket.socket) -> bytes:
-    listening.settimeout(SECONDS)
-    return listening.recv(100)
-
-
 def notifications(program: str) -> None:
-    """The server reports to systemd when it is ready and when it stops, at a path and at an abstract name. While clients last, it asks for more time. If
-    systemd takes no reports, it serves and ends all the same."""
-    with tempfile.TemporaryDirectory() as folder:
-        for name, address in (f"{folder}/notify", f"{folder}/notify"), (f"@b3store-test-{os.getpid()}", f"\0b3store-test-{os.getpid()}"):
+    """The server reports to systemd when it is ready and when it stops, at a path and at an abstract name. It asks for more time while it restores, and while
+    clients last and it saves. If systemd takes no reports, it serves and ends all the same."""
+    more = b"EXTEND_TIMEOUT_USEC=60000000"
+    with save_folder() as folder:
+        for name, address in (f"{folder}-notify", f"{folder}-notify"), (f"@b3store-test-{os.getpid()}", f"\0b3store-test-{os.getpid()}"):
             with socket.socket(socket.AF_UNIX, socket.SOCK_DGRAM) as listening, socket.socket(socket.AF_UNIX, socket.SOCK_DGRAM) as sender:
                 listening.bind(address)
-                with Running(program, "--grace", "60", NOTIFY_SOCKET=name) as server, server.client() as client:
-                    check((client.ask("tenants"), b"tenants 0\n"), (_notified(listening), b"READY=1"))
+                listening.settimeout(SECONDS)
+                with Running(program, "--save", folder, "--grace", "60", NOTIFY_SOCKET=name) as server, server.client() as client:
+                    check((client.ask("tenants"), b"tenants 0\n"), (listening.recv(100), more), (listening.recv(100), b"READY=1"))
                     server.signal()
-                    check((_notified(listening), b"STOPPING=1"), (_notified(listening), b"EXTEND_TIMEOUT_USEC=60000000"))
+                    check((listening.recv(100), b"STOPPING=1"), (listening.recv(100), more))
                     check((client.ask("tenants"), b"tenants 0\n"), (client.ends(), b""), (server.status(), 0))
                 sender.setblocking(False)
                 with contextlib.suppress(BlockingIOError):
@@ -359,16 +318,6 @@ def _passing(server_words: List[str], passed: socket.socket, folder: str) -> Any
     return subprocess.Popen(shell, stdout=subprocess.PIPE, stderr=subprocess.PIPE, pass_fds=[passed.fileno()], env=env)
 
 
-def _vsock(stack: contextlib.ExitStack) -> List[socket.socket]:
-    """A listening socket between virtual machines, if the system has such ones."""
-    with contextlib.suppress(AttributeError, OSError):
-        found = stack.enter_context(socket.socket(socket.AF_VSOCK))
-        found.bind((socket.VMADDR_CID_ANY, socket.VMADDR_PORT_ANY))
-        found.listen(1)
-        return [found]
-    return []
-
-
 def sockets_that_are_passed(program: str) -> None:
     """The server listens on what systemd passes, and leaves its file. What is no listening Unix-domain socket is an error."""
     with tempfile.TemporaryDirectory() as folder, socket.socket(socket.AF_UNIX) as passed:
@@ -381,11 +330,11 @@ def sockets_that_are_passed(program: str) -> None:
                 check((client.ask("tenants"), b"tenants 0\n"), (client.ends(), b""))
             server.terminate()
             check((server.wait(SECONDS), 0), (os.path.exists(path), True), (server.stderr.read(), b""))
-        with socket.socket(socket.AF_UNIX) as silent, socket.socket() as tcp, contextlib.ExitStack() as stack:
+        with socket.socket(socket.AF_UNIX) as silent, socket.socket() as tcp:
             tcp.bind(("127.0.0.1", 0))
             tcp.listen(1)
             wanted = b"descriptor 3 is not a listening Unix-domain socket"
-            for other in (silent, tcp, *_vsock(stack)):
+            for other in silent, tcp:
                 with _passing(["--program", program], other, folder) as server:
                     out, told = server.communicate(timeout=SECONDS)
                     check((server.returncode, 1), (out, b""), (wanted in told and told.count(b"\n") == 1, True))

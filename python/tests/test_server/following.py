@@ -5,6 +5,7 @@ import signal
 import subprocess
 import sys
 import tempfile
+from pathlib import Path
 from typing import Any, Iterator, List, Optional
 
 from judging import check, wait_until
@@ -95,8 +96,7 @@ def copies_in_a_folder(program: str) -> None:
     """A folder gets a log in place of the one that it has, and a server that is started on it has what the first one had."""
     with save_folder() as folder, Running(program) as first, first.client() as client:
         os.mkdir(folder, 0o700)
-        with open(append_to(f"{folder}/log"), "wb") as file:
-            file.write(b"tenant 7\n" * 3)
+        Path(append_to(f"{folder}/log")).write_bytes(b"tenant 7\n" * 3)
         append_to(f"{folder}/clean")
         client.ask("tenant 100000000")
         addresses = [client.file(b"%d" % number * 900_000) for number in range(4)]

@@ -1,18 +1,19 @@
 """What goes through a connection: lines, raw bytes, much of it, by many; and uploads that a connection leaves open."""
 import hashlib
+import itertools
 import multiprocessing
 import os
 import random
 import signal
 import threading
 import time
+from typing import Type
 
 from judging import check, wait_until
-from running import CLEAN, Client, Running
+from running import CLEAN, Client, Piped, Running
 
 SHORTLY = 0.3
 """How long it is made sure that nothing happens."""
-LONG_LINE = 100_000_000
 
 
 def a_session(program: str) -> None:
@@ -64,22 +65,22 @@ def uploads_of_a_connection(program: str) -> None:
         check((other.ends(), b""), (server.end(), CLEAN))
 
 
-def _begin_and_wait(path: str, lines: bytes, pipe: int) -> None:
-    with Client(path) as client:
+def _begin_and_wait(kind: Type[Client], path: str, lines: bytes, pipe: int) -> None:
+    with kind(path) as client:
         client.send(lines)
         os.write(pipe, client.line())
         time.sleep(60)
 
 
 def clients_that_are_killed(program: str) -> None:
-    """Their uploads are aborted, also those whose answers they never read, and no half of a command is done."""
+    """Their uploads are aborted, also those whose answers they never read, and no half of a command is done, through the socket or through pipes."""
     with Running(program, "--sessions", "2", "--wait", "60") as server, server.client() as other:
         other.ask("tenant 1000000000")
         kept = other.number("begin 0 7")
         halves = (b"", b"limit 0 5", b"putb 1 0 1024\nabc", b"begin 0 5\n" * 500, b"begin 0 5\nentries 0\n" * 200, b"fetchb 0 " + b"0" * 64)
-        for half in halves:
+        for kind, half in itertools.product((Client, Piped), halves):
             reading, writing = os.pipe()
-            client = multiprocessing.get_context("fork").Process(target=_begin_and_wait, args=(server.path, b"begin 0 5\n" + half, writing))
+            client = multiprocessing.get_context("fork").Process(target=_begin_and_wait, args=(kind, server.path, b"begin 0 5\n" + half, writing))
             client.start()
             check((os.read(reading, 100)[:7], b"upload "))
             os.kill(client.pid or 0, signal.SIGKILL)
@@ -89,26 +90,6 @@ def clients_that_are_killed(program: str) -> None:
             os.close(writing)
         check((other.ask("usage 0"), b"used 0 reserved 7 limit 1000000000\n"), (other.ends(), b""))
         check((server.end(), CLEAN))
-
-
-def half_a_line(program: str) -> None:
-    """A client that ends within a line or a part has not sent it."""
-    with Running(program) as server, server.client() as other:
-        other.ask("tenant 5000")
-        for half in (b"begin 0 1", b"limit 0 4", b"tenant 5", b"putb 0 0 3\nab", b"s"):
-            with server.client() as one:
-                one.send(b"stat\n" + half)
-                check((one.ends(), b"objects 0 bytes 0 uploads 0 held 0 parts 0\n"))
-        check((other.ask("journal"), b"journal 1\ntenant 0 5000\n"), (other.ends(), b""), (server.end(), CLEAN))
-
-
-def a_line_of_100_mb(program: str) -> None:
-    """It is `bad`, and the next line is answered."""
-    with Running(program) as server, server.client() as one:
-        for _ in range(LONG_LINE // 1_000_000):
-            one.send(b"a" * 1_000_000)
-        check((one.ask(""), b"bad\n"), (one.ask("tenants"), b"tenants 0\n"))
-        check((one.ends(), b""), (server.end(), CLEAN))
 
 
 def one_that_never_reads(program: str) -> None:

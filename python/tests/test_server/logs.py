@@ -12,6 +12,7 @@ import sys
 import tempfile
 import threading
 import time
+from pathlib import Path
 from typing import Any, Callable, Dict, Iterator, List, NamedTuple, Set, Tuple
 from unittest import mock
 
@@ -231,7 +232,7 @@ def faults_of_logs(program: str) -> None:
             if name == "ftruncate":
                 _append(f"{folder}/log")
             with mock.patch.object(os, name, _failing(number)):
-                check((logged.follows(), f"{log} can't be written: {os.strerror(number)}; it is tried again"), (logged.follows(), ""))
+                check((logged.follows(), f"{log} can't be written: {os.strerror(number).lower()}; it is tried again"), (logged.follows(), ""))
             if name == "fdatasync":
                 os.truncate(f"{folder}/log", size)
                 os.truncate(f"{folder}/log", size + 99)
@@ -239,12 +240,12 @@ def faults_of_logs(program: str) -> None:
         for address in addresses[:7]:
             logged.store.forget(0, address)
         with mock.patch.object(os, "replace", _failing(errno.EIO)), mock.patch.object(redo_log, "SECONDS_BETWEEN_TRIES", 0.0):
-            told = f"the long log in {folder} can't be written anew: Input/output error; it is tried again"
+            told = f"the long log in {folder} can't be written anew: input/output error; it is tried again"
             check((logged.follows(), told), (logged.follows(), ""), (_is_saved(program, folder, logged.store), True))
         check((logged.follows(), ""), (os.stat(f"{folder}/log").st_size < 1_400_000, True), (os.listdir(folder), ["log"]))
         os.unlink(f"{folder}/log")
         with mock.patch.object(os, "fsync", _failing(errno.EIO)):
-            check((logged.follows(), f"{log} can't be written: Input/output error; it is tried again"))
+            check((logged.follows(), f"{log} can't be written: input/output error; it is tried again"))
         check((logged.follows(), f"{log} is written again"), (_is_saved(program, folder, logged.store), True))
 
 
@@ -305,8 +306,7 @@ def torn_ends(program: str) -> None:
     for length in range(len(SMALL) + 1):
         with save_folder() as folder:
             os.mkdir(folder, 0o700)
-            with open(f"{folder}/log", "wb") as file:
-                file.write(SMALL[:length])
+            Path(f"{folder}/log").write_bytes(SMALL[:length])
             whole = max(end for end in ENDS if end <= length)
             with _logged(program, folder) as logged:
                 told = f"{folder}/log ended within a line: its last {length - whole} byte{'s are' if length - whole > 1 else ' is'} removed"
@@ -330,13 +330,7 @@ def logs_that_are_changed(program: str) -> None:
 def _damaged(log: bytes) -> Iterator[Tuple[bytes, str]]:
     """Logs in place of one, and what the message says."""
     yield b"<html>\n" * 100, "log: line 1, at byte 0, is no line of a log; nothing was changed; `truncate -s 0`"
-    yield b"kept", "log: line 1, at byte 0, is no line of a log"
-    yield bytes(4096), "log: line 1, at byte 0, is no line of a log"
     yield log + b"\n", f", at byte {len(log)}, is no line of a log; nothing was changed; `truncate -s {len(log)}`"
-    yield log + b"list 0\n", f", at byte {len(log)}, is no line of a log"
-    yield log + b"limit 0 " + b"1" * 300, f", at byte {len(log)}, is no line of a log"
-    yield log + b"limit 7 5\n", f", at byte {len(log)}, is refused: S1: "
-    yield log + b"tenant 99999999999999999999\n", f", at byte {len(log)}, is no line of a log"
     yield log[log.index(b"\n") + 1 :], "log: line 1, at byte 0, is refused: S1: "
     yield log + b"forget 0 " + b"0" * 64 + b"\nlimit 0 1\n", ", is refused: S4: "
 
@@ -345,14 +339,11 @@ def damaged_logs(program: str) -> None:
     """A line that is wrong or refused is named in a message, and nothing in the folder changes; nor if the log can't be read."""
     with save_folder() as folder:
         fill_folder(program, folder)
-        log = log_of(folder)
-        cases = [*_damaged(log)]
-        for content, wanted in cases:
-            with open(f"{folder}/log", "wb") as file:
-                file.write(content)
+        for content, wanted in _damaged(log_of(folder)):
+            Path(f"{folder}/log").write_bytes(content)
             before = files_in(folder)
             check((wanted in _unrestored(program, folder), True), (files_in(folder), before))
-        for error, reason in (OSError(errno.EIO, os.strerror(errno.EIO)), "Input/output error"), (MemoryError(), "out of memory"):
+        for error, reason in (OSError(errno.EIO, os.strerror(errno.EIO)), "input/output error"), (MemoryError(), "out of memory"):
             with mock.patch.object(redo_log, "run_lines", mock.Mock(side_effect=error)):
                 check((_unrestored(program, folder), f"the store that is saved in {folder}/log can't be restored: {reason}"), (files_in(folder), before))
         status, told = fails("--program", program, "--socket", f"{folder}-socket", "--save", folder)
@@ -378,8 +369,7 @@ def damaged_objects(program: str) -> None:
         log = log_of(folder)
         for at in log.index(b"1" * 9) + 1_500_000, log.index(b"3" * 9) + 9:
             log = flipped(log, at)
-        with open(f"{folder}/log", "wb") as file:
-            file.write(log)
+        Path(f"{folder}/log").write_bytes(log)
         with _logged(program, folder) as logged:
             told = [f"{folder}/log: line {number}, at byte {log.index(addresses[at].encode()) - 9}, is refused: S11: " for number, at in ((3, 1), (5, 3))]
             check(([*logged.store.list(0)], addresses[::2]), ([line[: len(wanted)] for line, wanted in zip(logged.reported, told)], told))
@@ -431,14 +421,13 @@ def full_disks(program: str) -> None:
             other = os.path.join(disk, "other")
 
             def fill(_: Running) -> None:
-                with open(other, "wb") as file:
-                    file.write(bytes(700_000))
+                Path(other).write_bytes(bytes(700_000))
 
             folder = os.path.join(disk, "saved")
             _cannot_write(program, folder, fill, lambda _: os.unlink(other))
             files = files_in(folder)
             subprocess.run(["mount", "-o", "remount,ro", disk], check=True)
-            told = f"b3store.server: cannot use the folder {folder}: Read-only file system\n"
+            told = f"b3store.server: cannot use the folder {folder}: read-only file system\n"
             check((fails("--program", program, "--socket", "/tmp/none", "--save", folder), (1, told)))
             check((files_in(folder), files))
         finally:

@@ -1,4 +1,5 @@
 """A server in a process of its own, and clients' connections to it."""
+import array
 import contextlib
 import os
 import signal
@@ -6,21 +7,14 @@ import socket
 import subprocess
 import sys
 import tempfile
-from typing import Any, Dict, List, Optional, Sequence, Set, Tuple
+from typing import Any, BinaryIO, Dict, List, Optional, Sequence, Set, Tuple
 
 PACKAGE = os.path.dirname(os.path.dirname(os.path.dirname(os.path.abspath(__file__))))
 SECONDS = 30.0
 """How long an answer, a start or an end may take."""
 ROWS = (b"list", b"journal", b"uploads", b"tenants", b"entries")
 AS_MODULE = ["-m", "b3store.server"]
-
-FEW_FILES = 48
-WITH_FEW_FILES = [
-    "-c",
-    f"import resource, runpy; resource.setrlimit(resource.RLIMIT_NOFILE, ({FEW_FILES}, {FEW_FILES}));"
-    " runpy.run_module('b3store.server', run_name='__main__', alter_sys=True)",
-]
-"""Words after `python` that run the server with a low limit on open files."""
+RUN_SERVER = "import runpy; runpy.run_module('b3store.server', run_name='__main__', alter_sys=True)"
 
 
 class Client:
@@ -30,7 +24,7 @@ class Client:
         self.socket = socket.socket(socket.AF_UNIX)
         self.socket.settimeout(SECONDS)
         self.socket.connect(path)
-        self._reading = self.socket.makefile("rb")
+        self._reading: BinaryIO = self.socket.makefile("rb")
 
     def __enter__(self) -> "Client":
         return self
@@ -91,6 +85,30 @@ class Client:
     def uploads(self, tenant: int = 0) -> List[int]:
         """The numbers of a tenant's open uploads."""
         return [int(row.split()[0]) for row in self.ask(f"uploads {tenant}").splitlines()[1:]]
+
+
+class Piped(Client):
+    """A connection whose lines go through its session's pipes, which are here."""
+
+    def __init__(self, path: str) -> None:
+        super().__init__(path)
+        self.socket.sendall(b"pipes\n")
+        found, others, _, _ = self.socket.recvmsg(100, 100, socket.MSG_CMSG_CLOEXEC)
+        assert found == b"pipes\n", found
+        requests, answers = array.array("i", b"".join(data for _, _, data in others))
+        self.requests, self._reading = open(requests, "wb", 0), open(answers, "rb", 0)
+
+    def send(self, *pieces: bytes) -> None:
+        for piece in pieces:
+            self.requests.write(piece)
+
+    def pipes(self) -> List[int]:
+        """The descriptors of the pipes."""
+        return [self.requests.fileno(), self._reading.fileno()]
+
+    def close(self) -> None:
+        self.requests.close()
+        super().close()
 
 
 class Running:

@@ -9,12 +9,13 @@ import subprocess
 import sys
 import tempfile
 import time
+from pathlib import Path
 from typing import Iterator, List, Tuple
 
 from judging import check, wait_until
 from lines import SHORTLY
-from running import AS_MODULE, CLEAN, PACKAGE, SECONDS, Client, Running, environment, fails
-from saving import LENGTHS, RUN_SERVER, append_to, content_of, files_in, fill_folder, save_folder, state_at, state_of
+from running import AS_MODULE, CLEAN, PACKAGE, RUN_SERVER, Client, Running, environment, fails
+from saving import LENGTHS, append_to, content_of, files_in, fill_folder, save_folder, state_at, state_of
 
 sys.path.insert(1, PACKAGE)
 from b3store.files import lock_folder
@@ -45,7 +46,7 @@ sys.exit(server.main())
 """A server whose first save fails in an unforeseen way, and that soon tries again."""
 HASTY = f"from b3store import server_store; server_store.SECONDS_OF_SILENCE = 1.0; {RUN_SERVER}"
 """A server that doesn't wait long for a store that doesn't answer."""
-TRIES_AGAIN = "before: File too large; it is tried again, for "
+TRIES_AGAIN = "before: file too large; it is tried again, for "
 """What the line has that reports a failed save."""
 
 
@@ -124,10 +125,10 @@ def folders_that_are_changed(program: str) -> None:
         with Running(program, "--save", folder) as server, server.client() as client:
             shutil.rmtree(folder)
             client.file(b"lost")
-            wanted = f"b3store.server: the log in {folder} can't be written: No such file or directory; it is tried again\n"
+            wanted = f"b3store.server: the log in {folder} can't be written: no such file or directory; it is tried again\n"
             check((wait_until(lambda: server.reported() == wanted), True), (client.ask("stat")[:10], b"objects 6 "), (client.ends(), b""))
             status, told, left = _end_unsaved(server)
-            check((status, 4), (told.count("No such file or directory"), 3), (left, []), (os.path.exists(folder), False))
+            check((status, 4), (told.count("no such file or directory"), 3), (left, []), (os.path.exists(folder), False))
 
 
 def _fault(path: str) -> str:
@@ -144,10 +145,10 @@ def _unusable(folder: str) -> Iterator[Tuple[str, str]]:
     unsaved = "and no saved store: name a folder that is empty or doesn't exist"
     append_to(f"{folder}/notes")
     yield folder, f"{folder} holds 'notes' {unsaved}"
-    yield f"{folder}/notes", f"cannot use the folder {folder}/notes: Not a directory"
-    yield f"{folder}/notes/a", f"cannot use the folder {folder}/notes/a: Not a directory"
-    yield f"{folder}/none/a", f"cannot use the folder {folder}/none/a: No such file or directory"
-    yield f"{folder}" + "/a" * 3000, f"cannot use the folder {folder}{'/a' * 3000}: File name too long"
+    yield f"{folder}/notes", f"cannot use the folder {folder}/notes: not a directory"
+    yield f"{folder}/notes/a", f"cannot use the folder {folder}/notes/a: not a directory"
+    yield f"{folder}/none/a", f"cannot use the folder {folder}/none/a: no such file or directory"
+    yield f"{folder}" + "/a" * 3000, f"cannot use the folder {folder}{'/a' * 3000}: file name too long"
     for make in os.mkfifo, os.mkdir, lambda path: os.symlink(f"{folder}/notes", path):
         make(f"{folder}/log")
         yield folder, f"{folder}/log is not a file; nothing was changed"
@@ -202,8 +203,7 @@ def links_in_a_folder(program: str) -> None:
             os.unlink(f"{folder}/log")
             os.symlink(other, f"{folder}/log")
             check((client.ends(), b""), (server.end(), CLEAN), (state_at(program, folder), state))
-        with open(other, "rb") as file:
-            check((file.read(), b"another"))
+        check((Path(other).read_bytes(), b"another"))
 
 
 def _end_unsaved(server: Running) -> Tuple[int, str, List[str]]:
@@ -258,19 +258,6 @@ def stores_that_are_stopped(program: str) -> None:
         check((status, 4), (told.splitlines()[-1], wanted), (left, []), (state_at(program, folder), state))
 
 
-def other_signals(program: str) -> None:
-    """SIGQUIT ends a server, which saves. Signals that are for something else have no effect."""
-    with save_folder() as folder, Running(program, "--save", folder) as server, server.client() as client:
-        client.ask("tenant 5000")
-        client.file(b"kept")
-        for number in signal.SIGUSR1, signal.SIGUSR2, signal.SIGALRM, signal.SIGVTALRM, signal.SIGPROF, signal.SIGIO:
-            os.killpg(server.process.pid, number)
-        state = state_of(client)
-        client.ends()
-        server.signal(signal.SIGQUIT)
-        check((server.status(), 0), (server.reported(), ""), (server.left(), []), (state_at(program, folder), state))
-
-
 def stores_that_end(program: str) -> None:
     """When the store's process is killed, the folder keeps the save before. A start whose store ends, or that is stopped, changes nothing."""
     with save_folder() as folder:
@@ -317,23 +304,3 @@ def stops_at_the_start(program: str) -> None:
                 check((server.returncode, 0), (b"b3store.server" in told, False), (os.listdir(room), []))
             check((wait_until(lambda: not os.path.exists(f"{folder}-socket")), True))
         check((state_at(program, folder), state))
-
-
-def asks_for_time(program: str) -> None:
-    """systemd is asked for more time while a save or a restoration lasts."""
-    import socket
-
-    with save_folder() as folder, tempfile.TemporaryDirectory() as room, socket.socket(socket.AF_UNIX, socket.SOCK_DGRAM) as listening:
-        fill_folder(program, folder)
-        listening.bind(f"{room}/notify")
-        listening.settimeout(SECONDS)
-        with Running(program, "--save", folder, NOTIFY_SOCKET=f"{room}/notify") as server:
-            with server.client() as client:
-                client.file(b"more")
-            check((server.end(), CLEAN))
-        states: List[bytes] = []
-        while states.count(b"EXTEND_TIMEOUT_USEC") < 2:
-            state = listening.recv(100).split(b"=")[0]
-            # it may be asked for again while it is due
-            states += [state] if states[-1:] != [state] else []
-        check((states, [b"EXTEND_TIMEOUT_USEC", b"READY", b"STOPPING", b"EXTEND_TIMEOUT_USEC"]))

@@ -4,13 +4,13 @@ import hashlib
 import os
 import signal
 import tempfile
+from pathlib import Path
 from typing import Any, Dict, Iterator
 
 from judging import wait_until
 from running import Client, Running
 
 LENGTHS = (1, 2, 1023, 1024, 1025, 4096, 70_000)
-RUN_SERVER = "import runpy; runpy.run_module('b3store.server', run_name='__main__', alter_sys=True)"
 RUN_QUICKLY = "import sys; from b3store import server; server.SECONDS_BETWEEN_WRITES = 0.02; sys.exit(server.main())"
 """A server that appends to its log 50 times a second."""
 
@@ -56,8 +56,7 @@ def files_in(folder: str) -> Dict[str, bytes]:
     """The names and bytes in a folder."""
     found = {}
     for name in sorted(os.listdir(folder)):
-        with open(os.path.join(folder, name), "rb") as file:
-            found[name] = file.read()
+        found[name] = Path(os.path.join(folder, name)).read_bytes()
     return found
 
 
@@ -88,6 +87,5 @@ def flipped(content: bytes, at: int) -> bytes:
 
 def append_to(path: str) -> str:
     """Makes a file of some bytes."""
-    with open(path, "wb") as file:
-        file.write(b"another")
+    Path(path).write_bytes(b"another")
     return path
