@@ -1,4 +1,5 @@
 """Uploads of any length, and objects as file objects."""
+import contextlib
 import io
 import itertools
 import operator
@@ -105,18 +106,13 @@ class Upload:
 
     def _abort_quietly(self) -> None:
         self.is_open = False
-        try:
+        with contextlib.suppress(Refused, Ended):
             self._commands.abort(self.number)
-        except (Refused, Ended):
-            pass
 
     def _write(self, view: memoryview) -> None:
-        start = 0
-        if self._kept:
-            start = min(PART_LEN - len(self._kept), view.nbytes)
-            self._kept += view[:start]
-            if len(self._kept) < PART_LEN:
-                return
+        start = min(-len(self._kept) % PART_LEN, view.nbytes)
+        self._kept += view[:start]
+        if len(self._kept) == PART_LEN:
             self._send_kept()
         end = start + (view.nbytes - start) // PART_LEN * PART_LEN
         self._send(split(view[start:end]))

@@ -2,6 +2,7 @@
 import contextlib
 import errno
 import hashlib
+import itertools
 import os
 import random
 import resource
@@ -17,11 +18,12 @@ from typing import Any, Callable, Dict, Iterator, List, NamedTuple, Set, Tuple
 from unittest import mock
 
 from judging import check, wait_until
-from running import AS_MODULE, CLEAN, PACKAGE, SECONDS, Client, Running, fails
+from running import AS_MODULE, CLEAN, PACKAGE, SECONDS, Running, fails
 from saving import RUN_QUICKLY, append_to, content_of, files_in, fill_folder, flipped, is_logged, log_of, save_folder, state_at, state_of
 
 sys.path.insert(1, PACKAGE)
-from b3store import Refused, redo_log
+from b3store import Client as PackageClient
+from b3store import Ended, Refused, redo_log
 from b3store.redo_log import RedoLog, SaveError
 from b3store.server_store import StoreProcess
 from b3store.sessions import Session
@@ -135,67 +137,47 @@ def follows_clients(program: str) -> None:
     check((fails("--program", program, "--socket", "/tmp/none", "--sync", "always")[0], 2))
 
 
-class Writer(threading.Thread):
-    """A client that files objects and forgets most of them, until its connection ends."""
-
-    def __init__(self, server: Running, numbers: Tuple[int, ...]) -> None:
-        super().__init__()
-        self._client, self._numbers = server.client(), numbers
-        self.filed: Dict[str, float] = {}
-        """What was filed and isn't forgotten, and when it was answered."""
-        self.sent: Set[bytes] = set()
-        """The hashes of all contents."""
-        self.start()
-
-    def run(self) -> None:
-        part = 0
-        with contextlib.suppress(OSError, EOFError, IndexError), self._client as client:
-            while True:
-                part += 1
-                content = content_of(*self._numbers, part) * (20_000 if part % 8 else 1)
-                self.sent.add(hashlib.sha256(content).digest())
-                address = client.file(content)
-                self.filed[address] = time.monotonic()
-                if len(self.filed) > 10:
-                    address = next(iter(self.filed))
-                    del self.filed[address]
-                    client.ask(f"forget 0 {address}")
-
-
-def _restored(client: Client, number: int, sent: Set[bytes]) -> Tuple[Set[str], List[str]]:
-    """What a store has after a kill, of which nothing is kept, and what is wrong with it."""
-    client.ask(f"tenant {1 << 40}")
-    addresses = [row.split()[0].decode() for row in client.ask("list 0").splitlines()[1:]]
-    contents = [client.ask(f"fetchb 0 {address}").partition(b"\n")[2] for address in addresses]
-    for address in addresses:
-        client.ask(f"forget 0 {address}")
-    return {*addresses}, [f"an object is wrong after kill {number}" for content in contents if hashlib.sha256(content).digest() not in sent]
+def _write(path: str, numbers: Tuple[int, ...], filed: Dict[str, float], sent: Set[bytes]) -> None:
+    """Files objects and forgets most of them, until the connection ends. Notes the hashes of all contents, and of those that it didn't forget when they were
+    answered."""
+    with contextlib.suppress(OSError, Ended), PackageClient(path) as client:
+        for part in itertools.count(1):
+            content = content_of(*numbers, part) * (20_000 if part % 8 else 1)
+            sent.add(hashlib.sha256(content).digest())
+            filed[client.file(0, content).address] = time.monotonic()
+            if len(filed) > 10:
+                address = next(iter(filed))
+                del filed[address]
+                client.forget(0, address)
 
 
 def kills_beside_writers(program: str) -> None:
     """Whenever a server or its store is killed, everything is restored that was answered before something that is in the log was sent, and nothing that wasn't
     sent. Meanwhile the log is written anew."""
-    chance, anew, missing = random.Random(9), 0, set()
-    writers: List[Writer] = []
-    sent: Set[bytes] = set()
+    chance, anew, missing, sent = random.Random(9), 0, set(), set()
     with save_folder() as folder:
         for number in range(KILLS):
-            with Running(program, "--save", folder, python=["-c", RUN_QUICKLY] if number % 5 else AS_MODULE) as server, server.client() as client:
-                restored, faults = _restored(client, number, sent)
-                check((faults, []), (missing - restored, set()))
-                inode = os.stat(f"{folder}/log").st_ino
-                writers = [Writer(server, (number, writer)) for writer in range(WRITERS)]
+            python = ["-c", RUN_QUICKLY] if number % 5 else AS_MODULE
+            with Running(program, "--save", folder, python=python) as server, PackageClient(server.path) as client:
+                client.tenant(1 << 40)
+                restored = {address: hashlib.sha256(client.fetch(0, address)).digest() for address in client.list(0)}
+                check((missing - {*restored}, set()), ({*restored.values()} - sent, set()))
+                for address in restored:
+                    client.forget(0, address)
+                inode, filed = os.stat(f"{folder}/log").st_ino, [{} for _ in range(WRITERS)]
+                writers = [threading.Thread(target=_write, args=(server.path, (number, at), filed[at], sent)) for at in range(WRITERS)]
+                for writer in writers:
+                    writer.start()
                 time.sleep(chance.uniform(0, 1))
                 before, marker = time.monotonic(), content_of(number)
                 sent.add(hashlib.sha256(marker).digest())
-                check((is_logged(folder, client.file(marker).encode()), True))
+                check((is_logged(folder, client.file(0, marker).address.encode()), True))
                 time.sleep(chance.uniform(0, 0.2))
                 os.kill(server.store() if number % 3 == 2 else server.process.pid, signal.SIGKILL)
                 server.status()
                 for writer in writers:
                     writer.join(SECONDS)
-                    sent |= writer.sent
-                missing = {address for writer in writers for address, at in writer.filed.items() if at < before}
+                missing = {address for those in filed for address, at in those.items() if at < before}
                 anew += os.stat(f"{folder}/log").st_ino != inode
     check((anew > 2, True), (len(sent) > KILLS * WRITERS, True))
 
