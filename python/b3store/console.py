@@ -1,16 +1,15 @@
 """What the programs of this package share: lines, messages, progress, and endings without a traceback."""
 import argparse
-import math
 import os
 import re
 import signal
 import sys
-from typing import Any, Callable
+from typing import Callable
 
 from .programs import ENDED, exit_at_ending, handle_ending
 from .values import MAX_NUMBER, StoreError
 
-PLAIN_NUMBER = re.compile("[0-9]{1,20}(?:[.][0-9]{1,15})?")
+DIGITS = re.compile("[0-9]{1,20}")
 SIZE = re.compile("([0-9]{1,20})([KMGT]?)")
 CONTROLS = re.compile(r"[\x00-\x1f\x7f-\x9f]")
 ESCAPES = {"\\": "\\\\", "\n": "\\n", "\r": "\\r"}
@@ -18,17 +17,13 @@ FAILED = 3
 """The exit status when reading, writing or the connection fails."""
 
 
-def number(least: float, most: float, kind: Callable[[str], Any] = int) -> Callable[[str], Any]:
+def number(least: int, most: int) -> Callable[[str], int]:
     """A function that reads an argument: a number in a range."""
 
-    def read(text: str) -> Any:
-        try:
-            value = kind(text) if PLAIN_NUMBER.fullmatch(text) else math.nan
-        except ValueError:
-            value = math.nan
-        if not least <= value <= most:
+    def read(text: str) -> int:
+        if not DIGITS.fullmatch(text) or not least <= int(text) <= most:
             raise argparse.ArgumentTypeError(f"{text!r} is not a number from {least} to {most}")
-        return value
+        return int(text)
 
     return read
 

@@ -295,7 +295,7 @@ def read_words() -> argparse.Namespace:
     add("--socket", metavar="PATH", help="listen on this Unix-domain socket, created with mode 0600")
     add("--sessions", metavar="N", type=number(1, MAX_SESSIONS), default=16, help="serve up to N connections at a time (1 to 64, default 16)")
     add("--program", metavar="PATH", default="b3store", help="run this b3store program (default: b3store)")
-    seconds = number(0, 86400, float)
+    seconds = number(0, 86400)
     add("--wait", metavar="SECONDS", type=seconds, default=10, help="send `busy` to a connection that has waited this long for its turn (default 10)")
     add("--grace", metavar="SECONDS", type=seconds, default=10, help="after SIGTERM, wait this long for open connections to end (default 10)")
     add("--save", metavar="FOLDER", help="at the start, restore the store from the log in FOLDER; append each change to it within a second")

@@ -110,7 +110,7 @@ def too_few_files(program: str) -> None:
             first.ask("tenant 5000")
             first.ask("begin 0 5")
             clients = [server.client() for _ in range(60)]
-            check((wait_until(lambda: "too many open files" in server.reported()), True))
+            check((server.reports("too many open files"), True))
             for client in clients:
                 client.close()
 
@@ -208,8 +208,7 @@ def stale_sockets(program: str) -> None:
     """The socket of a server that was killed is replaced."""
     with Running(program) as server:
         store = server.store()
-        server.signal(signal.SIGKILL)
-        server.status()
+        server.kill()
         check((os.path.exists(server.path), True), (wait_until(lambda: not is_running(store)), True))
         words = [sys.executable, *AS_MODULE, "--program", program, "--socket", server.path]
         with subprocess.Popen(words, stdout=subprocess.PIPE, env=environment(server.temporary, {})) as second:

@@ -2,14 +2,12 @@
 import contextlib
 import os
 import signal
-import subprocess
 import sys
-import tempfile
 from pathlib import Path
 from typing import Any, Iterator, List, Optional
 
 from judging import check, wait_until
-from running import CLEAN, PACKAGE, SECONDS, Client, Running, environment
+from running import CLEAN, PACKAGE, Client, Program, Running
 from saving import append_to, log_of, save_folder, state_at, state_of
 
 sys.path.insert(1, PACKAGE)
@@ -20,37 +18,21 @@ LARGE = (9 << 20) + 1
 """The length of an object that isn't kept in memory while it is copied."""
 
 
-class Following:
+class Following(Program):
     """A b3store.follow that runs."""
 
     def __init__(self, source: str, target: str) -> None:
-        self._room = tempfile.TemporaryDirectory()
-        self._errors = open(os.path.join(self._room.name, "errors"), "w+b")
-        words = [sys.executable, "-m", "b3store.follow", source, target]
-        self.process = subprocess.Popen(words, stdin=subprocess.DEVNULL, stdout=self._errors, stderr=self._errors, env=environment(self._room.name, {}))
+        super().__init__()
+        self.start(["-m", "b3store.follow", source, target], self.errors, {})
 
     def __enter__(self) -> "Following":
         return self
 
-    def __exit__(self, *_: Any) -> None:
-        self.process.kill()
-        self.process.wait()
-        self._errors.close()
-        self._room.cleanup()
-
-    def told(self) -> str:
-        with open(self._errors.name, encoding="utf-8") as file:
-            return file.read()
-
-    def tells(self, text: str) -> bool:
-        """Whether it soon has written a text."""
-        return wait_until(lambda: text in self.told())
-
     def ends(self, number: Optional[int] = None) -> List[Any]:
         """Its status, and all that it has written."""
         if number is not None:
-            self.process.send_signal(number)
-        return [self.process.wait(SECONDS), self.told()]
+            self.signal(number)
+        return [self.status(), self.reported()]
 
 
 def _same(first: Client, second: Client) -> bool:
@@ -74,8 +56,7 @@ def a_standby(program: str) -> None:
                 filling.tenant(limit)
             addresses = [filling.file(0, b"%d" % number).address for number in range(OBJECTS // 2)]
             filling.upload(bytes(LARGE), 0)
-            second.signal(signal.SIGKILL)
-            second.status()
+            second.kill()
             for address in addresses[::7]:
                 filling.forget(0, address)
             filling.limit(1, 6)
@@ -84,10 +65,9 @@ def a_standby(program: str) -> None:
                     filling.file(0 if number % 50 else 2, b"%d" % number)
                 check((_same(client, copied), True))
                 state = state_of(client)
-                first.signal(signal.SIGKILL)
-                first.status()
+                first.kill()
                 check((state_of(copied) == state, True), (copied.ask("tenant 7"), b"tenant 3\n"), (len(state["list 0"].splitlines()) > OBJECTS * 9 // 10, True))
-                check((following.tells(f"{first.path} has closed the connection; it is tried again\n"), True), (following.process.poll(), None))
+                check((following.reports(f"{first.path} has closed the connection; it is tried again\n"), True), (following.process.poll(), None))
                 status, told = following.ends(signal.SIGTERM)
                 check((status, 128 + signal.SIGTERM), ("Traceback" in told, False))
 
@@ -109,7 +89,7 @@ def copies_in_a_folder(program: str) -> None:
             check((wait_until(lambda: last in log_of(folder)), True))
             state = state_of(client)
             first.signal(signal.SIGKILL)
-            check((following.tells(" has closed the connection; it is tried again\n"), True), (following.ends(signal.SIGINT)[0], 128 + signal.SIGINT))
+            check((following.reports(" has closed the connection; it is tried again\n"), True), (following.ends(signal.SIGINT)[0], 128 + signal.SIGINT))
         check((state_at(program, folder), state))
 
 
@@ -117,7 +97,7 @@ def copies_that_are_refused(program: str) -> None:
     """A copy is left as it is if it has more tenants, or if the first server was started again; a place that is wrong is reported once, and tried again."""
     with Running(program) as first, Running(program) as second, second.client() as copied:
         with Following(f"{first.path}-none", second.path) as following:
-            check((following.tells(f"b3store: {first.path}-none: no such file or directory; it is tried again\n"), True))
+            check((following.reports(f"b3store: {first.path}-none: no such file or directory; it is tried again\n"), True))
             check((following.ends(signal.SIGINT)[1].count("\n"), 1))
         with Following(first.path, first.path) as following:
             status, told = following.ends()
@@ -130,13 +110,12 @@ def copies_that_are_refused(program: str) -> None:
         copied.close()
     with Running(program) as first, Running(program) as second, second.client() as copied:
         with Following(first.path, second.path) as following, first.client() as client:
-            check((following.tells(f"b3store.follow: {second.path} has 0 objects and 0 tenants\n"), True))
+            check((following.reports(f"b3store.follow: {second.path} has 0 objects and 0 tenants\n"), True))
             client.ask("tenant 9")
             client.file(b"kept")
             check((_same(client, copied), True))
             state = state_of(client)
-            first.signal(signal.SIGKILL)
-            first.status()
+            first.kill()
             with _again(program, first.path), Client(first.path) as again:
                 again.ask("tenant 9")
                 status, told = following.ends()

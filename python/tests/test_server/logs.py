@@ -129,8 +129,7 @@ def follows_clients(program: str) -> None:
                 lines = b"tenant 5000\nfileas 0 " + address + b" 3\nabclimit 0 6\n"
                 check((is_logged(folder, lines), True), (log_of(folder), lines))
                 state = state_of(client)
-                server.signal(signal.SIGKILL)
-                server.status()
+                server.kill()
             with Running(program, "--save", folder) as server:
                 check((server.lines[0], "b3store.server: restored 1 object and 1 tenant; the last process was killed\n"), (server.end(), CLEAN))
             check((state_at(program, folder), state))
@@ -358,9 +357,9 @@ def damaged_objects(program: str) -> None:
             check(([line.endswith(": this object is damaged, and not restored") for line in logged.reported], [True] * 2))
 
 
-def _cannot_write(program: str, folder: str, fill: Any, free: Any, **more: Any) -> None:
+def _cannot_write(program: str, folder: str, fill: Any, free: Any) -> None:
     """While there is no room, clients are served, and a kill loses only what was filed since. Then the log gets all of that."""
-    with Running(program, "--save", folder, **more) as server, server.client() as client:
+    with Running(program, "--save", folder) as server, server.client() as client:
         client.ask("tenant 5000000")
         first = client.file(b"first")
         check((is_logged(folder, first.encode()), True))
@@ -368,7 +367,7 @@ def _cannot_write(program: str, folder: str, fill: Any, free: Any, **more: Any) 
         for number in range(3):
             client.file(b"%d" % number * 150_000)
         told = f"b3store.server: the log in {folder} can't be written: "
-        check((wait_until(lambda: told in server.reported()), True))
+        check((server.reports(told), True))
         time.sleep(2)
         copy = f"{tempfile.mkdtemp(dir=server.folder)}/saved"
         shutil.copytree(folder, copy)
@@ -378,10 +377,9 @@ def _cannot_write(program: str, folder: str, fill: Any, free: Any, **more: Any) 
         free(server)
         last = client.file(b"last").encode()
         state = state_of(client)
-        check((is_logged(folder, last), True), (wait_until(lambda: " is written again\n" in server.reported()), True))
+        check((is_logged(folder, last), True), (server.reports(" is written again\n"), True))
         check((server.reported().count("\n"), 2))
-        server.signal(signal.SIGKILL)
-        server.status()
+        server.kill()
     check((state_at(program, folder), state))
 
 

@@ -2,12 +2,15 @@
 import array
 import contextlib
 import os
+import shutil
 import signal
 import socket
 import subprocess
 import sys
 import tempfile
 from typing import Any, BinaryIO, Dict, List, Optional, Sequence, Set, Tuple
+
+from judging import wait_until
 
 PACKAGE = os.path.dirname(os.path.dirname(os.path.dirname(os.path.abspath(__file__))))
 SECONDS = 30.0
@@ -111,43 +114,65 @@ class Piped(Client):
         super().close()
 
 
-class Running:
-    """A server that runs, with its socket and its temporary folder in a folder of its own."""
+class Program:
+    """A program of the package in a process and a folder of its own, which has a socket, perhaps, and temporary files."""
 
-    def __init__(self, program: str, *words: str, python: Sequence[str] = AS_MODULE, closes: bool = True, **variables: str) -> None:
+    def __init__(self) -> None:
         self.folder = tempfile.mkdtemp(prefix="b3store-test-")
-        self.path = os.path.join(self.folder, "socket")
-        self.temporary = os.path.join(self.folder, "temporary")
+        self.path, self.temporary = os.path.join(self.folder, "socket"), os.path.join(self.folder, "temporary")
         os.mkdir(self.temporary)
         self.errors = open(os.path.join(self.folder, "errors"), "ab")
-        command = [sys.executable, *python, "--socket", self.path, "--program", program, *words]
-        self.process = subprocess.Popen(
-            command, stdin=subprocess.DEVNULL, stdout=subprocess.PIPE, stderr=self.errors, env=environment(self.temporary, variables), start_new_session=True,
-            close_fds=closes,
+
+    def start(self, words: Sequence[str], stdout: Any, variables: Dict[str, str]) -> None:
+        """Starts Python with these words."""
+        self.process: Any = subprocess.Popen(
+            [sys.executable, *words], stdin=subprocess.DEVNULL, stdout=stdout, stderr=self.errors, start_new_session=True,
+            env=environment(self.temporary, variables),
         )
-        assert self.process.stdout
-        self.lines = self._started()
-        """What it wrote to standard output when it began."""
-
-    def _started(self) -> List[str]:
-        """The lines up to the one of the socket, or until the server has ended."""
-        assert self.process.stdout
-        lines: List[str] = []
-        while not any(" listening on " in line for line in lines) and lines[-1:] != [""]:
-            lines.append(self.process.stdout.readline().decode())
-        return lines
-
-    def __enter__(self) -> "Running":
-        return self
 
     def __exit__(self, *_: Any) -> None:
         if self.process.poll() is None:
             self.process.kill()
-        self.process.wait()
-        assert self.process.stdout
-        self.process.stdout.close()
+        # this waits, and closes the pipe
+        self.process.__exit__(None, None, None)
         self.errors.close()
-        subprocess.run(["rm", "-rf", self.folder], check=True)
+        shutil.rmtree(self.folder)
+
+    def reported(self) -> str:
+        """What it has written to standard error."""
+        with open(self.errors.name, encoding="utf-8", errors="replace") as errors:
+            return errors.read()
+
+    def reports(self, text: str) -> bool:
+        """Whether it soon has written a text."""
+        return wait_until(lambda: text in self.reported())
+
+    def signal(self, number: int = signal.SIGTERM) -> None:
+        self.process.send_signal(number)
+
+    def kill(self) -> None:
+        """Kills it, and waits until it has ended."""
+        self.signal(signal.SIGKILL)
+        self.status()
+
+    def status(self, seconds: float = SECONDS) -> int:
+        """The exit status, once it has ended."""
+        return int(self.process.wait(seconds))
+
+
+class Running(Program):
+    """A server that runs."""
+
+    def __init__(self, program: str, *words: str, python: Sequence[str] = AS_MODULE, **variables: str) -> None:
+        super().__init__()
+        self.start([*python, "--socket", self.path, "--program", program, *words], subprocess.PIPE, variables)
+        self.lines: List[str] = []
+        """What it wrote to standard output when it began: up to the line of the socket, or until it has ended."""
+        while not any(" listening on " in line for line in self.lines) and self.lines[-1:] != [""]:
+            self.lines.append(self.process.stdout.readline().decode())
+
+    def __enter__(self) -> "Running":
+        return self
 
     def client(self) -> Client:
         return Client(self.path)
@@ -176,18 +201,6 @@ class Running:
             with contextlib.suppress(FileNotFoundError):
                 count += os.readlink(os.path.join(at, name)).startswith("socket:")
         return count
-
-    def reported(self) -> str:
-        """What the server has written to standard error."""
-        with open(self.errors.name, encoding="utf-8", errors="replace") as errors:
-            return errors.read()
-
-    def signal(self, number: int = signal.SIGTERM) -> None:
-        self.process.send_signal(number)
-
-    def status(self, seconds: float = SECONDS) -> int:
-        """The exit status, once the server has ended."""
-        return self.process.wait(seconds)
 
     def end(self) -> Tuple[int, str, List[str]]:
         """Ends the server. Returns its status, what it reported, and what it left in its folders."""

@@ -209,7 +209,7 @@ def links_in_a_folder(program: str) -> None:
 def _end_unsaved(server: Running) -> Tuple[int, str, List[str]]:
     """What `end` returns of a server that can't save, which a second signal ends."""
     server.signal()
-    wait_until(lambda: "; it is tried again, for " in server.reported())
+    server.reports("; it is tried again, for ")
     return server.end()
 
 
@@ -221,7 +221,7 @@ def saves_that_fail(program: str) -> None:
         state = state_of(client)
         client.ends()
         server.signal()
-        check((wait_until(lambda: TRIES_AGAIN in server.reported()), True))
+        check((server.reports(TRIES_AGAIN), True))
         with server.client() as late:
             time.sleep(SHORTLY)
             check((server.reported().count(TRIES_AGAIN), 1), (server.process.poll(), None))
@@ -279,7 +279,7 @@ def stores_that_end(program: str) -> None:
             client.ask("begin 0 5")
             os.kill(server.store(), signal.SIGSTOP)
             server.signal()
-            check((wait_until(lambda: "the server ends while 1 connection is open" in server.reported()), True))
+            check((server.reports("the server ends while 1 connection is open"), True))
             os.kill(server.store(), signal.SIGKILL)
             wanted = f"b3store.server: the store can't be saved in {folder}, which has what was saved before: the store has ended"
             check((server.status(), 4), (server.reported().splitlines()[1:2], [wanted]))

@@ -2,7 +2,6 @@
 import contextlib
 import hashlib
 import os
-import signal
 import tempfile
 from pathlib import Path
 from typing import Any, Dict, Iterator
@@ -42,8 +41,7 @@ def state_at(program: str, folder: str) -> Dict[str, Any]:
         assert server.lines[-1:] != [""], server.reported()
         with server.client() as client:
             state = state_of(client)
-        server.signal(signal.SIGKILL)
-        server.status()
+        server.kill()
         return state
 
 
