@@ -4,7 +4,7 @@
     backup.py save [--exclude PATTERN].. [--all] REPOSITORY FOLDER    save what is in FOLDER, and print the snapshot's address
     backup.py list REPOSITORY [SNAPSHOT]                              list the snapshots, or the paths of one
     backup.py restore REPOSITORY SNAPSHOT FOLDER [PATH]               restore a snapshot, or one path of it, into FOLDER
-    backup.py check REPOSITORY                                        hash all objects again, and print what can't be restored
+    backup.py check [--program PROGRAM] REPOSITORY                    hash all objects again, and print what can't be restored
     backup.py forget REPOSITORY [SNAPSHOT]..                          remove snapshots, and what no other one needs
 
 A SNAPSHOT is an address, its first digits, or `latest`. A PATTERN is for names, as `*.o`, or, with a slash, for paths below FOLDER, as `build/*`.
@@ -20,8 +20,8 @@ file isn't read again if its number, length and times are those of the last snap
 `restore` writes each file under another name first, leaves alone what is there already, and reports what differs: after an interrupt it can be run again. No link
 in FOLDER is followed. A new folder has the mode 1700 until it is complete.
 
-While a save or a forget uses a repository, no other command does. A save that is killed changes no snapshot. Each command takes about 300 bytes of memory for each
-object.
+While a save or a forget uses a repository, no other command does. A save that is killed changes no snapshot. `check` gives each log to the program b3store, which
+needs as much memory: 64 MiB, or one object. Each command takes about 300 bytes of memory for each object.
 """
 import os
 import sys
@@ -41,6 +41,7 @@ import itertools
 import json
 import re
 import stat
+import subprocess
 import time
 
 from b3store import MAX_LIMIT, Store, StoreError
@@ -432,12 +433,14 @@ class Backup(Repository):
                 self.report(f"{address}  {fault}")
 
     def check(self):
-        count, broken, whole = len(self.places), 0, set()
-        for address in [*self.places]:
-            try:
-                self.read(address)
-            except Fault as fault:
-                self.report(str(fault))
+        count, broken, whole, hashed = len(self.places), 0, set(), {}
+        for name in self.logs:
+            # the program compares the hash of each object with its address
+            with self.open(name) as log, subprocess.Popen([self.options.program, "serve"], stdin=log, stdout=subprocess.PIPE) as process:
+                hashed[name] = {line.split()[1].decode() for line in process.stdout if line.startswith((b"new ", b"known "))}
+        for address, (name, _, _) in [*self.places.items()]:
+            if address not in hashed[name]:
+                self.report(f"object {address} in {name} is damaged")
                 del self.places[address]
         for address in self.snapshots:
             lists, faults = set(), []
@@ -498,6 +501,8 @@ def main():
         if work is Backup.save:
             command.add_argument("--exclude", metavar="PATTERN", action="append", default=[])
             command.add_argument("--all", action="store_true")
+        if work is Backup.check:
+            command.add_argument("--program", metavar="PROGRAM", default="b3store")
     options = parser.parse_args()
     if options.work is Backup.save:
         os.makedirs(options.repository, 0o700, exist_ok=True)

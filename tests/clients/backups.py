@@ -18,7 +18,7 @@ import tempfile
 import time
 from unittest import mock
 
-from shared import SECONDS, TOP, check, readable_by_others
+from shared import PROGRAM, SECONDS, TOP, check, readable_by_others
 from b3store.hashing import blake3
 import backup
 from pathlib import Path
@@ -34,9 +34,13 @@ def run(*words, **how):
     return ran.returncode, ran.stdout.decode(errors="surrogateescape").splitlines(), ran.stderr.decode(errors="surrogateescape").splitlines()
 
 
+def run_check(repository):
+    return run("check", "--program", PROGRAM, repository)
+
+
 def is_whole(repository, snapshots):
     """Checks a repository that should have so many snapshots, each of which can be restored."""
-    status, lines, errors = run("check", repository)
+    status, lines, errors = run_check(repository)
     check((status, 0), (errors, []), (bool(re.fullmatch(f"[0-9]+ objects?, 0 damaged; {snapshots} snapshots?, 0 broken", lines[-1])), True))
 
 
@@ -218,7 +222,7 @@ def damaged_objects():
         offset = content.index(Path(os.path.join(folder, "many/7/file")).read_bytes())
         address = content[: offset - 1].split(b" ")[-2].decode()
         changed_byte(log, offset + 5)
-        status, lines, _ = run("check", repository)
+        status, lines, _ = run_check(repository)
         short = run("list", repository)[1][0][:8]
         check((status, 1), (lines[:2], [f"object {address} in 000001.log is damaged", f"snapshot {short} can't restore many/7/file"]), (lines[2].split(", ", 1)[1], "1 damaged; 1 snapshot, 1 broken"))
         status, lines, _ = run("restore", repository, "latest", restored)
@@ -481,7 +485,7 @@ def locks():
         for lock, statuses in (fcntl.LOCK_EX, (3, 3, 3)), (fcntl.LOCK_SH, (3, 0, 0)):
             holding = os.open(repository, os.O_RDONLY)
             fcntl.flock(holding, lock)
-            got = run("save", repository, folder), run("restore", repository, "latest", restored), run("check", repository)
+            got = run("save", repository, folder), run("restore", repository, "latest", restored), run_check(repository)
             os.close(holding)
             check((tuple(each[0] for each in got), statuses), (got[0][2], [f"b3store: {repository} is in use by another command"]))
 
@@ -491,7 +495,7 @@ def wrong_words():
     with place_of() as (folder, repository, restored):
         file = os.path.join(folder, "large")
         cases = (
-            (["save", repository, restored], 3, restored), (["save", file, folder], 3, file), (["save", repository, file], 3, file), (["save", repository, repository], 3, repository), (["check", restored], 3, restored),
+            (["save", repository, restored], 3, restored), (["save", file, folder], 3, file), (["save", repository, file], 3, file), (["save", repository, repository], 3, repository), (["check", restored], 3, restored), (["check", "--program", restored, repository], 3, restored),
             (["restore", repository, "latest", file], 3, file), (["save", "", folder], 3, ""), (["restore", repository, "latest", ""], 3, ""),
             (["frob", repository], 2, "'frob'"), (["save", repository], 2, "FOLDER"), ([], 2, "COMMAND"), (["list", repository, "a", "b"], 2, "b"),
         )
