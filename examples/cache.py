@@ -197,7 +197,8 @@ class Handler(http.server.BaseHTTPRequestHandler):
                 self.progress("sent", len(room))
                 at += len(room)
                 room = room[: wanted.stop - at]
-                self.server.cache.read(entry, room, at)
+                if room:
+                    self.server.cache.read(entry, room, at)
         except Refused:
             # the client receives fewer bytes than Content-Length
             self.close_connection = True
