@@ -1,5 +1,5 @@
 /* The program bin/b3store, if ./install installs b3store for two levels of processors: it runs ../libexec/b3store/LEVEL/b3store, from its own
- * folder, for the level that fits this processor. `upload` keeps its whole input in memory: huge pages spare it a fifth of its time. */
+ * folder, for the level that fits this processor. `upload` keeps its whole input in memory: with huge pages it has fewer page faults. */
 #include <cpuid.h>
 #include <stdio.h>
 #include <stdlib.h>
