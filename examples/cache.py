@@ -41,7 +41,8 @@ import threading
 import time
 
 from b3store import Refused, StoreError
-from b3store.console import error_text, fault_text, number, one_line, open_standard_files, show, size
+from b3store import console
+from b3store.console import error_text, fault_text, number, open_standard_files, size
 from b3store.listening import more_time, notify
 from b3store.values import half_of_memory
 from cache_content import Cache, Declined
@@ -377,7 +378,7 @@ def close(connection, how):
 
 
 def report(text):
-    show(f"cache: {one_line(text)}\n")
+    console.report(text, "cache")
 
 
 def serve(options, ending):

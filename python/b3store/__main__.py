@@ -157,13 +157,11 @@ def ls(store: Client, words: Any) -> None:
 
 
 def tenants(store: Client, _: Any) -> None:
-    """Prints a line for each tenant."""
     for number, usage in store.tenants().items():
         print(f"tenant {number}", named(usage))
 
 
 def journal(store: Client, words: Any) -> None:
-    """Prints entries of the journal."""
     for entry in itertools.islice(store.journal(words.start), min(words.count, sys.maxsize)):
         print(one_line(entry))
 
@@ -190,7 +188,6 @@ def miss(text: str) -> int:
 
 
 def address_argument(text: str) -> str:
-    """An argument that is an address."""
     try:
         return check_address(text)
     except ValueError as fault:
@@ -198,7 +195,6 @@ def address_argument(text: str) -> str:
 
 
 def range_argument(text: str) -> Tuple[int, int]:
-    """An argument that is a range."""
     start, colon, length = text.partition(":")
     if not colon:
         raise argparse.ArgumentTypeError(f"{text!r} is not FROM:LEN")
@@ -224,7 +220,6 @@ def add_command(commands: Any, work: Callable[[Client, Any], Optional[int]], nam
 
 
 def make_parser() -> argparse.ArgumentParser:
-    """The parser of the command line."""
     parser = argparse.ArgumentParser("b3store-client", description="Use the store of a running b3store server.", epilog=EPILOG, formatter_class=Formatter)
     parser.add_argument("--version", action="version", version=f"b3store-client {__version__}")
     add_common(parser, True)
@@ -275,7 +270,6 @@ def run(arguments: Optional[List[str]] = None) -> int:
 
 
 def main() -> int:
-    """Runs the program, and returns its exit status."""
     return finish(run)
 
 

@@ -30,7 +30,6 @@ class PipeSession(Session):
         self._socket, self._next_look = Session(connection, connection.makefile("rb"), end), 0.0
 
     def is_at_rest(self) -> bool:
-        """Whether the other side has neither closed an end nor sent anything. No answer may be due."""
         return super().is_at_rest() and self._socket.is_at_rest()
 
     def write(self, *pieces: Any) -> None:
@@ -43,12 +42,10 @@ class PipeSession(Session):
         super().write(*pieces)
 
     def close(self) -> None:
-        """Closes all ends."""
         super().close()
         self._socket.close()
 
     def leave(self, nowhere: int) -> None:
-        """Puts another descriptor in place of all ends, which this process has inherited."""
         super().leave(nowhere)
         self._socket.leave(nowhere)
 
@@ -154,7 +151,6 @@ class Client(Commands):
             list(giving)
 
     def _give_back(self, sessions: Sequence[Session]) -> None:
-        """Makes sessions free."""
         for session in sessions:
             self._free.put(session)
 

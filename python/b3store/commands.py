@@ -276,26 +276,19 @@ class Commands:
             return upload.seal(address)
 
     def _put_all(self, upload: int, offset: int, parts: List[memoryview]) -> None:
-        """Puts a few parts one after another in one turn. All are sent before the first answer is read: the answers fit any pipe."""
-        lines, at = [], offset
+        """Puts a few parts one after another in one turn."""
+        lines: List[Buffer] = []
         for part in parts:
-            lines += [b"putb %d %d %d\n" % (upload, at, part.nbytes), part]
-            at += part.nbytes
-
-        def put(session: Session) -> List[Optional[Refused]]:
-            session.write(*lines)
-            return session.refusals(HELD, len(parts))
-
-        for refusal in self._in_turn(put):
+            lines += [b"putb %d %d %d\n" % (upload, offset, part.nbytes), part]
+            offset += part.nbytes
+        for refusal in self._in_turn(lambda session: session.refusals(HELD, len(parts), *lines)):
             if refusal is not None:
                 raise refusal
 
     def _begin(self, word: str, tenant: int, length: int) -> int:
-        """Begins an upload, and returns its number."""
         return int(self._ask("upload N", f"{word} {tenant} {length}")[0])
 
     def _ask(self, form: str, line: str, content: Buffer = b"") -> List[Any]:
-        """Sends a command, and returns the values in its answer."""
         return self._in_turn(lambda session: session.ask(form, line, content))
 
     def _rows(self, row: str, form: str, line: str) -> List[List[Any]]:

@@ -49,14 +49,9 @@ def one_line(text: str) -> str:
 
 
 def report(text: str, name: str = "b3store") -> None:
-    """Writes a message of one line, after a program's name, to standard error."""
-    show(f"{name}: {one_line(text)}\n")
-
-
-def show(text: str) -> None:
-    """Writes to standard error, if that can be written to. Bytes of names that are not text are escaped."""
+    """Writes a line after a program's name to standard error, if that can be written to. Bytes of names that are not text are escaped."""
     try:
-        sys.stderr.write(text.encode("utf-8", "backslashreplace").decode("utf-8"))
+        sys.stderr.write(f"{name}: {one_line(text)}\n".encode("utf-8", "backslashreplace").decode("utf-8"))
         sys.stderr.flush()
     except OSError:
         drop_output(2)

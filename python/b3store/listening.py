@@ -85,7 +85,6 @@ def inherited() -> List[Listener]:
 
 
 def passed(descriptor: int) -> Listener:
-    """A socket that systemd passes."""
     with contextlib.suppress(OSError):
         os.set_inheritable(descriptor, False)
         listening = socket.socket(fileno=descriptor)

@@ -55,7 +55,6 @@ def signals_held() -> "Iterator[None]":
 
 
 def client() -> int:
-    """Runs `b3store-client`, and returns its exit status."""
     end_at_once()
     from .__main__ import main
 
@@ -63,7 +62,6 @@ def client() -> int:
 
 
 def server() -> int:
-    """Runs `b3store-server`, and returns its exit status."""
     end_at_once()
     from .server import main
 

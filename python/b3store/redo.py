@@ -6,7 +6,7 @@ import re
 from typing import BinaryIO, Callable, Iterator, List, NamedTuple, Optional, Tuple, Union
 
 from . import TYPE_CHECKING
-from .sessions import PIECE_LEN, Session
+from .sessions import PIECE_LEN
 from .values import FILED, Buffer, ObjectRow, Refused, StoreError, check_bytes
 
 if TYPE_CHECKING:
@@ -108,13 +108,9 @@ def run_lines(
 
 
 def run_batch(store: "Commands", batch: List[Line]) -> List[Optional[Refused]]:
-    """Runs lines, which are all sent before an answer is read. Returns the refusal of each, or None."""
-
-    def run(session: Session) -> List[Optional[Refused]]:
-        session.write(*(piece for line in batch for piece in (line.text, line.content)))
-        return session.refusals(DONE, len(batch))
-
-    return store._in_turn(run) if batch else []
+    """Runs lines, which are sent at once. Returns the refusal of each, or None."""
+    pieces = [piece for line in batch for piece in (line.text, line.content)]
+    return store._in_turn(lambda session: session.refusals(DONE, len(batch), *pieces)) if batch else []
 
 
 def run_long(store: "Commands", line: Line, log: BinaryIO) -> List[Optional[Refused]]:

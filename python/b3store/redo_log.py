@@ -257,7 +257,6 @@ class RedoLog:
         return found
 
     def _remove(self, name: str) -> None:
-        """Removes a file, if there is one."""
         with contextlib.suppress(FileNotFoundError):
             os.unlink(name, dir_fd=self._folder)
 
@@ -309,7 +308,6 @@ class RedoLog:
 
 
 def counts_text(counts: Counts) -> str:
-    """Says how much a store has."""
     return f"{count_text(counts.objects, 'object')} and {count_text(counts.tenants, 'tenant')}"
 
 

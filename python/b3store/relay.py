@@ -90,7 +90,6 @@ class Connection:
                 piece = self.socket.recv(BUFFER)
 
     def _wait_for_end(self, pipes: Pipes) -> None:
-        """Waits until the store has ended the session."""
         start, pause = time.monotonic(), SECONDS_BETWEEN_LOOKS
         while not pipes.has_ended():
             time.sleep(pause)

@@ -1,11 +1,5 @@
 """A store that many processes share: `python -m b3store.server --socket PATH` (docs/USE.md).
 
-    $ python -m b3store.server --socket /tmp/store &
-    b3store.server: listening on /tmp/store
-    $ printf 'tenant 4096\\nstat\\n' | socat - UNIX-CONNECT:/tmp/store
-    tenant 0
-    objects 0 bytes 0 uploads 0 held 0 parts 0
-
 The server starts `b3store serve --at DOOR --sessions N` with a door in a private temporary folder, and listens on a socket. Each connection is one session,
 which speaks the lines of `b3store serve`, through the session's own pipes if the client asks for them (relay.py). Up to N connections are served at a time;
 the others wait for their turn, in the order in which they came. The store lives in memory; with `--save FOLDER` the server keeps a log of it (redo_log.py).
@@ -66,7 +60,6 @@ exit status: 0 after a signal; 1 it can't start; 2 usage error; 3 the store's pr
 
 
 def report(message: str) -> None:
-    """Writes a line to standard error."""
     write_line(sys.stderr, message)
 
 
@@ -130,7 +123,6 @@ class Connections:
             served = [connection for connection in served if not connection.has_pipes]
 
     def _work(self) -> None:
-        """Serves one connection after another."""
         while True:
             with contextlib.suppress(MemoryError):
                 connection = self._next()
@@ -323,7 +315,6 @@ def open_listeners(words: argparse.Namespace, ending: contextlib.ExitStack) -> L
 
 
 def serve(words: argparse.Namespace) -> int:
-    """Starts the store, and serves it until the end."""
     exit_at_ending()
     for ignored in OTHERS:
         signal.signal(ignored, signal.SIG_IGN)

@@ -55,7 +55,6 @@ class Pipes(NamedTuple):
 
 
 def status_text(status: int) -> str:
-    """An exit status in words."""
     names = {-number: number.name for number in signal.Signals}
     return f"status {status}" + (f", killed by {names.get(status, f'signal {-status}')}" if status < 0 else "")
 
@@ -199,7 +198,6 @@ class StoreProcess(Commands):
         return False
 
     def close(self) -> None:
-        """Ends the process. See `end`."""
         self.end()
 
     def end(self) -> int:

@@ -70,8 +70,9 @@ class Session:
             raise Ended(BUSY)
         return parse(form, line)
 
-    def refusals(self, form: str, count: int) -> List[Optional[Refused]]:
-        """Reads several answers. Returns the refusal that each of them is, or None."""
+    def refusals(self, form: str, count: int, *pieces: Buffer) -> List[Optional[Refused]]:
+        """Sends several commands at once, and returns the refusal of each, or None. Their answers must fit any pipe."""
+        self.write(*pieces)
         found: List[Optional[Refused]] = []
         while len(found) < count:
             try:
@@ -124,7 +125,6 @@ class Session:
             raise fault if fault.errno is None else Ended(self._end) from None
 
     def close(self) -> None:
-        """Closes both ends."""
         for end in self._sending, self._reading:
             with contextlib.suppress(OSError):
                 end.close()

@@ -140,11 +140,9 @@ class StoredObject(io.RawIOBase):
         """The object's length."""
 
     def readable(self) -> bool:
-        """True."""
         return True
 
     def seekable(self) -> bool:
-        """True."""
         return True
 
     def write(self, content: Any) -> int:
