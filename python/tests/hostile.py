@@ -15,7 +15,7 @@ import warnings
 from pathlib import Path
 
 from served import server_of
-from bridge import SESSIONS, Bridge, client_of_a_server, over_both
+from running import Running, client_of_a_server, over_both
 from shared import ABC, FOUR, SECONDS, TOP, check, ended, raised, wait_until
 from b3store import AsyncStore, Client, Store
 from b3store.sessions import MAX_LINE_LEN, Session
@@ -145,8 +145,8 @@ def processes_that_inherit():
 
 def closes_beside_a_fork():
     """What a process closes ends although a new process lives, which in turn waits for no thread of its parent."""
-    with Bridge() as server:
-        for count in 1, SESSIONS:
+    with Running() as server:
+        for count in 1, 16:
             store = Client(server.path, sessions=count)
             free, taken = store._free, store._free.get()
             with closed_in_a_fork(store) as told:
@@ -155,7 +155,7 @@ def closes_beside_a_fork():
                 closing.start()
                 closing.join(SECONDS / 2)
                 check((told, b"ok"), (closing.is_alive(), False))
-                with Client(server.path, sessions=SESSIONS) as other:
+                with Client(server.path, sessions=16) as other:
                     check((other.alive, True))
 
 

@@ -8,7 +8,7 @@ import sys
 import tempfile
 import time
 
-from bridge import Bridge
+from running import Running
 from hostile import listen_to_signals
 from shared import ABC, EMPTY, FOUR, SECONDS, TOP, check, wait_until
 from served import server_of
@@ -37,7 +37,7 @@ def run_in_shell(line):
 
 
 def puts_and_gets():
-    with tempfile.TemporaryDirectory() as place, Bridge() as server:
+    with tempfile.TemporaryDirectory() as place, Running() as server:
         def client(*words, data=b""):
             return run(words, data, B3STORE_SOCKET=server.path)
 
@@ -78,7 +78,7 @@ def puts_and_gets():
 
 def tenants_and_limits():
     """Tenants are opened and limited by size, and named before or after the command."""
-    with Bridge() as server:
+    with Running() as server:
         socket = ["--socket", server.path]
         for words, status, out, err in (
             (["tenant", "4K"], 0, "0\n", ""), (["tenant", "1000"], 0, "1\n", ""), (["tenant", "64T"], 0, "2\n", ""), (["tenant", "0"], 0, "3\n", ""),
@@ -96,7 +96,7 @@ def tenants_and_limits():
 
 def reserves_no_more_than_it_reads():
     """What is put from a pipe reserves nothing until it is read, and then its length; with a maximum, that is reserved, and nothing is kept beside the store."""
-    with Bridge() as server, Client(server.path) as store, tempfile.TemporaryDirectory() as place:
+    with Running() as server, Client(server.path) as store, tempfile.TemporaryDirectory() as place:
         tenant, content = store.tenant(1 << 30), content_of(9 * PART_LEN + 5)
         for words, reserved in ([], 0), (["--max-len", "32M"], 32 << 20):
             command = [sys.executable, "-m", "b3store", "--socket", server.path, "put", *words, "-"]
@@ -127,7 +127,7 @@ def keeps_on_a_full_disk(server, place):
 
 def names_of_all_bytes():
     """A line has the bytes of the name that was given, whatever encoding Python is told to write."""
-    with tempfile.TemporaryDirectory() as place, Bridge() as server:
+    with tempfile.TemporaryDirectory() as place, Running() as server:
         path = os.path.join(os.fsencode(place), b"\xc3\xa9\xff")
         Path(os.fsdecode(path)).write_bytes(b"abc")
         for encoding in "utf-8", "latin-1", "ascii":
@@ -136,7 +136,7 @@ def names_of_all_bytes():
 
 def outputs_of_all_kinds():
     """A pipe is written to, and a link is refused: what it leads to stays as it is."""
-    with tempfile.TemporaryDirectory() as place, Bridge() as server:
+    with tempfile.TemporaryDirectory() as place, Running() as server:
         run(["--socket", server.path, "put", "-"], b"abc")
         pipe, link, kept = (os.path.join(place, name) for name in ("pipe", "link", "kept"))
         get = ["--socket", server.path, "get", ABC, "-o"]
@@ -158,7 +158,7 @@ def outputs_of_all_kinds():
 
 def says_what_is_wrong():
     """A message of one line, a status, and never a traceback."""
-    with tempfile.TemporaryDirectory() as place, Bridge() as server:
+    with tempfile.TemporaryDirectory() as place, Running() as server:
         none, gone = os.path.join(place, "none"), "0" * 64
         socket = ["--socket", server.path]
         cases = (
@@ -198,7 +198,7 @@ def fails_to_write(server, place):
 
 def ends_on_an_interrupt():
     """Without a traceback, also in the middle of an upload, which is not filed."""
-    with Bridge() as server:
+    with Running() as server:
         words = [sys.executable, "-m", "b3store", "--socket", server.path, "put", "-"]
         # a shell's background job ignores interrupts, and so would its children
         with subprocess.Popen(words, stdin=-1, stdout=-1, stderr=-1, env=environment(), preexec_fn=listen_to_signals) as put:

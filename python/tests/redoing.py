@@ -1,15 +1,18 @@
 """Lines that redo what a store has done, stores that are renewed, and logs of stores in this process."""
 import contextlib
+import errno
 import io
 import os
 import pickle
-import shutil
 import tempfile
+import typing
+from pathlib import Path
+from unittest import mock
 
-from bridge import client_of_a_server, over_both
+from running import client_of_a_server, over_both
 from shared import ABC, EMPTY, check, raised, refusal
-from b3store import LogError, ObjectPage, Redone, RedoLog, Refused, SaveError, Store, Usage, renew
-from judging import wait_until
+from b3store import LogError, ObjectPage, Redone, RedoLog, Refused, SaveError, Store, Usage, redo_log, renew
+from b3store.files import lock_folder
 
 LENGTHS = (0, 1, 1023, 1024, 1 << 14, (1 << 14) + 1, 1 << 20, (1 << 20) + 1, (5 << 20) + 5)
 """Lengths of objects, some of which are sent in parts, or redone alone."""
@@ -133,34 +136,261 @@ def renewed_stores():
     new.close()
 
 
-def logs_of_stores():
-    """A log follows a store of this process, is written anew when that pays, goes on after the store is renewed, and restores it."""
+@contextlib.contextmanager
+def save_folder():
+    """The path of a folder for saves, which isn't made yet."""
+    with tempfile.TemporaryDirectory(prefix="b3store-test-") as above:
+        yield os.path.join(above, "saved")
+
+
+class Logged(typing.NamedTuple):
+    """A store, the log that follows it, and what was reported."""
+
+    store: Store
+    log: RedoLog
+    told: list
+
+    def follows(self):
+        """What is reported when the log is followed until it has all."""
+        before = len(self.told)
+        while self.log.follow(self.store):
+            pass
+        return "\n".join(self.told[before:])
+
+
+@contextlib.contextmanager
+def logged(folder):
+    """A store that is restored from a folder, and its log."""
     told = []
-    with tempfile.TemporaryDirectory() as room:
-        folder = os.path.join(room, "saved")
-        log, store = RedoLog(folder, told.append), Store()
-        check((log.restore(store), None), (log.follow(store), False))
-        fill(store)
-        check((log.follow(store), False), (is_copy(folder, store, told), True))
-        for number in range(9):
-            address = store.file(0, bytes([number]) * 4_000_000).address
-            log.follow(store)
-            store.forget(0, address)
-        check((wait_until(lambda: not log.follow(store)), True), (os.stat(f"{folder}/log").st_size < 36_000_000, True))
-        entries, store = store.counts().entries, log.renew(store)
-        check((store.counts().entries < entries, True))
-        store.file(0, b"late")
-        check((log.follow(store), False), (is_copy(folder, store, told), True))
-        check((log.finish(store), "19 objects and 3 tenants"), (log.follow(store), False))
-        check((raised(RedoLog, folder, told.append), SaveError), (raised(RedoLog, __file__, told.append), SaveError), (log.close(), None))
-        check((raised(RedoLog, folder, told.append), None), (log.follow(store), False), (told, []))
-        store.close()
+    with Store() as store, contextlib.closing(RedoLog(folder, told.append)) as log:
+        log.restore(store)
+        yield Logged(store, log, told)
 
 
-def is_copy(folder, store, told):
-    """Whether a copy of a folder restores what a store has."""
-    with tempfile.TemporaryDirectory() as other, Store() as restored:
-        shutil.copy(f"{folder}/log", f"{other}/log")
-        with contextlib.closing(RedoLog(other, told.append)) as log:
-            check((bool(log.restore(restored)), True))
-        return without_order(state_of(restored)) == without_order(state_of(store))
+def saved_in(folder):
+    """What a folder's log restores."""
+    with Store() as store, open(f"{folder}/log", "rb") as log:
+        store.run_lines(log)
+        return state_of(store)
+
+
+def is_saved(folder, store):
+    return saved_in(folder) == state_of(store)
+
+
+def files_in(folder):
+    """The names and bytes in a folder."""
+    return {name: Path(folder, name).read_bytes() for name in sorted(os.listdir(folder))}
+
+
+def file_some(store):
+    """Files nine objects of 300,000 bytes, and one that another tenant has, too."""
+    for _ in range(2):
+        store.tenant(100_000_000)
+    store.file(1, b"shared" * 9)
+    return [store.file(0, b"%d" % number * 300_000).address for number in range(9)]
+
+
+def fill_folder(folder):
+    with logged(folder) as here:
+        file_some(here.store)
+        here.log.finish(here.store)
+
+
+def append_to(path):
+    """Appends bytes to a file that are no line of a log."""
+    with open(path, "ab") as file:
+        file.write(b"another")
+    return path
+
+
+def failing(number):
+    """A call that fails with an error of the system."""
+    return mock.Mock(side_effect=OSError(number, os.strerror(number)))
+
+
+def logs_of_stores():
+    """A log follows a store, is written anew if the store has less than half of it, also after a restart, follows a renewed store, and restores it."""
+    with save_folder() as folder:
+        path = f"{folder}/log"
+        with logged(folder) as here:
+            addresses = file_some(here.store)
+            check((here.follows(), ""))
+            inode = os.stat(path).st_ino
+            here.store.file(0, b"kept")
+            check((here.follows(), ""), (os.stat(path).st_ino, inode))
+            for address in addresses[:7]:
+                here.store.forget(0, address)
+            check((here.follows(), ""), (os.stat(path).st_size < 1_400_000, True), (os.listdir(folder), ["log"]))
+            entries = here.store.counts().entries
+            with here.log.renew(here.store) as new:
+                here = here._replace(store=new)
+                new.file(0, b"late")
+                check((new.counts().entries < entries, True), (here.follows(), ""), (is_saved(folder, new), True))
+                check((raised(RedoLog, folder, print), SaveError), (here.log.finish(new), "5 objects and 2 tenants"), (here.log.follow(new), False))
+        with open(path, "ab") as file:
+            # the second of each two is refused S12
+            file.write(b"fileas 0 %s 300000\n%sforget 0 %s\nforget 0 %s\n" % (addresses[0].encode(), b"0" * 300_000, *[addresses[0].encode()] * 2) * 6)
+        with logged(folder) as here:
+            check((here.follows(), ""), (os.stat(path).st_size < 700_000, True), (is_saved(folder, here.store), True))
+
+
+def faults_of_logs():
+    """If a log can't be written, synced or written anew, that is reported once, and tried again: nothing is lost, also if the system lost what wasn't synced. A
+    store that has no memory to redo several entries at once is saved all the same."""
+    with save_folder() as folder, logged(folder) as here:
+        addresses, path, told = file_some(here.store), f"{folder}/log", f"the log in {folder}"
+        redo_to = here.store._redo_to
+        with mock.patch.object(here.store, "_redo_to", lambda write, first, count: redo_to(write, first, count) if count == 1 else refuse("S14")):
+            check((here.follows(), ""), (is_saved(folder, here.store), True))
+        for name, number in ("pwrite", errno.ENOSPC), ("fdatasync", errno.EIO), ("ftruncate", errno.EROFS):
+            size = os.stat(path).st_size
+            here.store.file(0, name.encode() * 9)
+            if name == "ftruncate":
+                append_to(path)
+            with mock.patch.object(os, name, failing(number)):
+                check((here.follows(), f"{told} can't be written: {os.strerror(number).lower()}; it is tried again"), (here.follows(), ""))
+            if name == "fdatasync":
+                os.truncate(path, size)
+                os.truncate(path, size + 99)
+            check((here.follows(), f"{told} is written again"), (is_saved(folder, here.store), True))
+        for address in addresses[:7]:
+            here.store.forget(0, address)
+        with mock.patch.object(os, "replace", failing(errno.EIO)), mock.patch.object(redo_log, "SECONDS_BETWEEN_TRIES", 0.0):
+            anew = f"the long log in {folder} can't be written anew: input/output error; it is tried again"
+            check((here.follows(), anew), (here.follows(), ""), (is_saved(folder, here.store), True))
+        check((here.follows(), ""), (os.stat(path).st_size < 1_400_000, True), (os.listdir(folder), ["log"]))
+        os.unlink(path)
+        with mock.patch.object(os, "fsync", failing(errno.EIO)):
+            check((here.follows(), f"{told} can't be written: input/output error; it is tried again"))
+        check((here.follows(), f"{told} is written again"), (is_saved(folder, here.store), True))
+
+
+def refuse(number):
+    raise Refused(number)
+
+
+SMALL = ABC_LINES + b"forget 0 %s\nlimit 0 7\n" % ABC.encode()
+ENDS = [0, 12, 91, 165, 176, 250, 260]
+"""A small log, and where its lines end."""
+
+
+def torn_ends():
+    """A log that ends at any byte is restored up to its last complete line. The others are removed, which is reported, and what is appended follows."""
+    for length in range(len(SMALL) + 1):
+        with save_folder() as folder:
+            os.mkdir(folder, 0o700)
+            path, whole = Path(f"{folder}/log"), max(end for end in ENDS if end <= length)
+            path.write_bytes(SMALL[:length])
+            with logged(folder) as here:
+                told = f"{path} ended within a line: its last {length - whole} byte{'s are' if length - whole > 1 else ' is'} removed"
+                check((here.told, [told] if length > whole else []), (path.read_bytes(), SMALL[:whole]))
+                here.store.tenant(5)
+                check((here.follows(), ""), (path.read_bytes(), SMALL[:whole] + b"tenant 5\n"))
+    check((len(SMALL), ENDS[-1]))
+
+
+def logs_that_are_changed():
+    """A log that is removed, replaced or truncated meanwhile is written anew, and no link in its folder is followed; what another program appends is removed."""
+    with save_folder() as folder:
+        other = append_to(f"{folder}-other")
+
+        def link(*names):
+            for name in names:
+                os.symlink(other, f"{folder}/{name}")
+
+        os.mkdir(folder, 0o700)
+        link("log.new", "clean")
+        changes = os.unlink, lambda path: os.rename(append_to(f"{path}-other"), path), lambda path: os.truncate(path, 20), append_to
+        with logged(folder) as here:
+            file_some(here.store)
+            check((here.follows(), ""))
+            for change in *changes, lambda path: os.unlink(path) or link("log", "log.new", "clean"):
+                change(f"{folder}/log")
+                here.store.file(0, b"%d" % len(here.store.list(0)))
+                check((here.follows(), ""), (is_saved(folder, here.store), True), (os.listdir(folder), ["log"]))
+        check((Path(other).read_bytes(), b"another"))
+
+
+def damaged(log):
+    """Logs in place of one, and what the message says."""
+    yield b"<html>\n" * 100, "log: line 1, at byte 0, is no line of a log; nothing was changed; `truncate -s 0`"
+    yield log + b"\n", f", at byte {len(log)}, is no line of a log; nothing was changed; `truncate -s {len(log)}`"
+    yield log[log.index(b"\n") + 1 :], "log: line 2, at byte 17, is refused: S1: "
+    yield log + b"forget 0 " + b"0" * 64 + b"\nlimit 0 1\n", ", is refused: S4: "
+
+
+def unrestored(folder):
+    """Why a folder can't be used or restored."""
+    try:
+        with logged(folder):
+            return ""
+    except SaveError as error:
+        return str(error)
+
+
+def damaged_logs():
+    """A line that is wrong or refused is named in a message, and nothing in the folder changes; nor if the log can't be read."""
+    with save_folder() as folder:
+        fill_folder(folder)
+        path = Path(f"{folder}/log")
+        for content, wanted in damaged(path.read_bytes()):
+            path.write_bytes(content)
+            before = files_in(folder)
+            check((wanted in unrestored(folder), True), (files_in(folder), before))
+        for error, reason in (OSError(errno.EIO, os.strerror(errno.EIO)), "input/output error"), (MemoryError(), "out of memory"):
+            with mock.patch.object(redo_log, "run_lines", mock.Mock(side_effect=error)):
+                check((unrestored(folder), f"the store that is saved in {path} can't be restored: {reason}"), (files_in(folder), before))
+
+
+def damaged_objects():
+    """An object that is damaged is reported, and all others are restored."""
+    with save_folder() as folder:
+        with logged(folder) as here:
+            here.store.tenant()
+            addresses = [here.store.upload(b"%d" % number * length, 0).address for number, length in enumerate((5, 2_000_000, 5, 70_000))]
+            here.follows()
+        log = bytearray(Path(f"{folder}/log").read_bytes())
+        for at in log.index(b"1" * 9) + 1_500_000, log.index(b"3" * 9) + 9:
+            log[at] ^= 1
+        Path(f"{folder}/log").write_bytes(log)
+        with logged(folder) as here:
+            wanted = [f"{folder}/log: line {number}, at byte {log.index(addresses[at].encode()) - 9}, is refused: S11: " for number, at in ((3, 1), (5, 3))]
+            check(([*here.store.list(0)], addresses[::2]), ([line[: len(start)] for line, start in zip(here.told, wanted)], wanted))
+            check(([line.endswith(": this object is damaged, and not restored") for line in here.told], [True] * 2))
+
+
+def unusable(folder):
+    """Folders that are none for a log, each after it was made, and what is wrong with it."""
+    unsaved = "and no saved store: name a folder that is empty or doesn't exist"
+    append_to(f"{folder}/notes")
+    yield folder, f"{folder} holds 'notes' {unsaved}"
+    yield f"{folder}/notes", f"cannot use the folder {folder}/notes: not a directory"
+    yield f"{folder}/notes/a", f"cannot use the folder {folder}/notes/a: not a directory"
+    yield f"{folder}/none/a", f"cannot use the folder {folder}/none/a: no such file or directory"
+    yield f"{folder}" + "/a" * 3000, f"cannot use the folder {folder}{'/a' * 3000}: file name too long"
+    for make in os.mkfifo, os.mkdir, lambda path: os.symlink(f"{folder}/notes", path):
+        make(f"{folder}/log")
+        yield folder, f"{folder}/log is not a file; nothing was changed"
+        os.rename(f"{folder}/log", f"{folder}/other-{make}")
+    append_to(f"{folder}/log")
+    for mode in 0o775, 0o757:
+        os.chmod(folder, mode)
+        yield folder, f"{folder} can be written to by others: chmod go-w {folder}"
+    os.chmod(folder, 0o700)
+    if os.geteuid() == 0:
+        os.chown(folder, 1234, -1)
+        yield folder, f"{folder} belongs to another user: name a folder of your own"
+        os.chown(folder, 0, -1)
+    locked = lock_folder(folder)
+    yield folder, f"{folder} is in use by another server"
+    os.close(locked)
+
+
+def folders_that_are_none():
+    """A folder of something else or of others, a file, and a place where none can be made: a message, and nothing changes."""
+    with save_folder() as folder:
+        os.mkdir(folder, 0o700)
+        for path, wanted in unusable(folder):
+            before = sorted(os.listdir(folder))
+            check((unrestored(path), wanted), (sorted(os.listdir(folder)), before))

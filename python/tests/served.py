@@ -14,7 +14,7 @@ import textwrap
 import threading
 import time
 
-from bridge import Bridge
+from running import Running
 from shared import ABC, SECONDS, TOP, Interrupted, alarms, check, ended, in_threads, interrupted_calls, raised, refusal, wait_until
 from b3store import Client, Ended, Filed, Usage
 from b3store.client import PipeSession
@@ -23,7 +23,7 @@ from transfers import PART_LEN, content_of
 
 
 def over_a_socket():
-    with Bridge() as server:
+    with Running() as server:
         with Client(server.path) as store:
             check((store.file(store.tenant(50), b"abc"), Filed(True, ABC, 3)), (refusal(store.usage, 5), ("S1", None)), (store.alive, True))
         check((store.alive, False), (ended(store.stat), "the client was closed"), (store.close(), None))
@@ -36,7 +36,7 @@ def over_several_runs():
     with open(os.path.join(TOP, "docs", "USE.md"), encoding="utf-8") as page:
         code = re.search(r"(?m)^    from b3store import Client\n\n(?:    .*\n)+", page.read())[0]
     before = os.getcwd()
-    with tempfile.TemporaryDirectory() as place, Bridge() as server, Client(server.path) as store:
+    with tempfile.TemporaryDirectory() as place, Running() as server, Client(server.path) as store:
         os.chdir(place)
         try:
             for _ in range(2):
@@ -81,7 +81,7 @@ def forwarded(target):
 def over_a_forwarded_socket():
     """A client to which no pipes can be passed sends its lines through the socket. What it has begun is aborted when it ends."""
     content = content_of(9 * PART_LEN + 3)
-    with Bridge() as server, forwarded(server.path) as path, Client(server.path) as near:
+    with Running() as server, forwarded(server.path) as path, Client(server.path) as near:
         with Client(path, sessions=3) as store:
             tenant = store.tenant(1 << 30)
             address = store.upload(io.BytesIO(content), tenant).address
@@ -237,7 +237,7 @@ def interrupts_at_any_moment():
     is only rarer."""
     if sys.version_info < (3, 11):
         return []
-    with alarms(), Bridge() as server:
+    with alarms(), Running() as server:
         for number in range(100):
             with Client(server.path) as store:
                 interrupted_calls(store.stat, 0.002 + number / 20000)

@@ -12,7 +12,7 @@ import subprocess
 import sys
 import threading
 
-from bridge import client_of_a_server, over_both
+from running import client_of_a_server, over_both
 from shared import ABC, EMPTY, FOUR, SECONDS, TOP, alarms, check, in_threads, interrupted_calls, raised, refusal
 from b3store import MAX_NUMBER, PART_LEN, Counts, Filed, Held, OpenUpload, Refused, Store, Totals, Usage
 from b3store.store import SMALL_LEN

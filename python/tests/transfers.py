@@ -9,7 +9,7 @@ import tempfile
 import threading
 from pathlib import Path
 
-from bridge import client_of_a_server, over_both
+from running import client_of_a_server, over_both
 from shared import ABC, EMPTY, FOUR, SECONDS, Interrupted, check, interrupt, raised, refusal
 from b3store import MAX_LIMIT, MAX_UPLOAD_LEN, PART_LEN, AsyncStore, Ended, Filed, Held, Refused, Totals, Usage
 from b3store.values import half_of_memory

@@ -75,7 +75,7 @@ def finds(mistake, seed):
     program = [sys.executable, PLAIN, "--wrong", mistake]
     try:
         found = LONE_CASES[OF_LONE[mistake]](program) if mistake in OF_LONE else storm(program, 4, COMMANDS_TO_FIND, seed)
-    except NoAnswer as fault:
+    except (NoAnswer, AssertionError) as fault:
         found = [str(fault)]
     print(f"{mistake}: {found[:1]}"[:300], flush=True)
     return [] if found else ["it is not found"]

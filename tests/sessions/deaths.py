@@ -6,9 +6,10 @@ import subprocess
 import time
 
 from clients import FILLS, Chooser, Log, end_of, join_clients, read_log, start, talk
-from door import LOOKS, SECONDS, Server, Session
+from door import Server, Session
 from history import Op, faults_of
 from journal import audit_answer
+from judging import wait_until
 
 SESSIONS, WORKERS, VICTIMS = 8, 3, 4
 PAUSE = 0.004
@@ -129,12 +130,9 @@ def all_sessions_answer(server):
 
 def left_open(server):
     """What is wrong where uploads of clients that have ended are open still after a while."""
-    end = time.monotonic() + SECONDS
-    while any(answer != b"uploads 0\n" for answer in server.uploads()):
-        if time.monotonic() > end:
-            return [f"uploads of clients that have ended are open: {server.uploads()}"]
-        time.sleep(LOOKS)
-    return []
+    if wait_until(lambda: set(server.all_uploads()) <= {b"uploads 0\n"}):
+        return []
+    return [f"uploads of clients that have ended are open: {server.all_uploads()}"]
 
 
 def untold(journal, histories):

@@ -4,70 +4,51 @@ import sys
 import tempfile
 import time
 import types
-from typing import Any, List
 
 from judging import check
-from running import PACKAGE, Client, Running
+from running import Connection, Running
+from shared import TOP
 
-TESTS = os.path.join(os.path.dirname(PACKAGE), "tests")
-CLIENTS = 6
-SESSIONS = 4
-SESSIONS_OF_CLIENT = 3
-"""Each client of tests/sessions connects so often."""
+sys.path[1:1] = [os.path.join(TOP, "tests", name) for name in ("second_reading", "sessions")]
+import clients
+from deaths import asked
+from history import Op, faults_of
+
+CLIENTS, SESSIONS = 6, 4
 COMMANDS = 6000
 SECONDS = 240
 TENANTS = 3
 
 
-def _modules() -> Any:
-    """The modules of tests/sessions, whose clients then connect to a socket."""
-    sys.path[1:1] = [os.path.join(TESTS, name) for name in ("common", "second_reading", "sessions")]
-    import clients
-    import history
-
-    clients.Session = lambda path, _: Client(path)  # type: ignore
-    return types.SimpleNamespace(start=clients.start_clients, join=clients.join_clients, read=clients.read_log, Op=history.Op, faults_of=history.faults_of)
-
-
-def _storm(program: str, *words: str) -> None:
-    modules = _modules()
-    with Running(program, "--sessions", str(SESSIONS), "--wait", "60", *words) as server, tempfile.TemporaryDirectory() as folder:
+def _storm(*words):
+    with Running("--sessions", str(SESSIONS), "--wait", "60", *words) as server, tempfile.TemporaryDirectory() as folder:
+        clients.Session = lambda path, _: Connection(path)
         with server.client() as first:
             began = time.monotonic_ns()
-            setup = [_asked(modules, first, f"tenant {30_000}") for _ in range(TENANTS)]
-        started = modules.start(types.SimpleNamespace(folder=folder, at=server.path), 1, CLIENTS, COMMANDS)
-        found = modules.join(started, SECONDS)
-        histories = [setup] + [modules.read(path, number) for number, (_, path) in enumerate(started, 1)]
+            setup = [asked(first, "tenant 30000") for _ in range(TENANTS)]
+        started = clients.start_clients(types.SimpleNamespace(folder=folder, at=server.path), 1, CLIENTS, COMMANDS)
+        found = clients.join_clients(started, SECONDS)
+        histories = [setup] + [clients.read_log(path, number) for number, (_, path) in enumerate(started, 1)]
         with server.client() as last:
             journal = last.ask("journal").decode().splitlines()[1:]
             open_uploads = [last.uploads(tenant) for tenant in range(TENANTS)]
-        aborts = _aborts_of_server(modules, journal, histories, began)
-        check((found, []), (modules.faults_of(journal, [*histories, aborts])[:3], []), (server.end()[:2], (0, "")))
-        if "--keep-uploads" in words:
-            check((aborts, []))
-        else:
-            check((open_uploads, [[]] * TENANTS))
+        aborts = _aborts_of_server(journal, histories, began)
+        check((found, []), (faults_of(journal, [*histories, aborts])[:3], []), (server.end()[:2], (0, "")))
+        check((aborts, []) if words else (open_uploads, [[]] * TENANTS))
 
 
-def _asked(modules: Any, client: Client, line: str) -> Any:
-    op = modules.Op(0, time.monotonic_ns(), line, (0, 0))
-    op.answer = client.ask(line)
-    op.ended = time.monotonic_ns()
-    return op
-
-
-def _aborts_of_server(modules: Any, journal: List[str], histories: List[List[Any]], began: int) -> List[Any]:
+def _aborts_of_server(journal, histories, began):
     """The aborts that no client did, as commands of one more client, at any time."""
     done = {op.line for history in histories for op in history if op.line.startswith("abort ") and op.answer == b"ok\n"}
     ended = time.monotonic_ns()
-    return [modules.Op(0, began, entry, (0, 0), ended, b"ok\n") for entry in journal if entry.startswith("abort ") and entry not in done]
+    return [Op(0, began, entry, (0, 0), ended, b"ok\n") for entry in journal if entry.startswith("abort ") and entry not in done]
 
 
-def storm(program: str) -> None:
+def storm():
     """What sessions left open is aborted, and nothing else is done."""
-    _storm(program)
+    _storm()
 
 
-def storm_with_kept_uploads(program: str) -> None:
+def storm_with_kept_uploads():
     """The same where nothing is aborted."""
-    _storm(program, "--keep-uploads")
+    _storm("--keep-uploads")
