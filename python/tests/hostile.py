@@ -1,6 +1,5 @@
 """Servers that lie, processes that inherit a store, closes that are interrupted, and odd numbers."""
 import asyncio
-import contextlib
 import gc
 import os
 import queue
@@ -16,7 +15,7 @@ from pathlib import Path
 
 from served import server_of
 from running import Running, client_of_a_server, over_both
-from shared import ABC, FOUR, SECONDS, TOP, check, ended, raised, wait_until
+from shared import ABC, FOUR, SECONDS, TOP, check, ended, forked, raised, wait_until
 from b3store import AsyncStore, Client, Store
 from b3store.sessions import MAX_LINE_LEN, Session
 
@@ -129,18 +128,8 @@ def processes_that_inherit():
     """A process after a fork uses none of its parent's connections, whose answers it would take away."""
     with client_of_a_server() as store:
         tenant = store.tenant()
-        reading, writing = os.pipe()
-        child = os.fork()
-        if child == 0:
-            try:
-                os.write(writing, (ended(store.stat) or "nothing is raised").encode())
-            finally:
-                os._exit(0)
-        os.close(writing)
-        with open(reading, "rb") as told:
-            check((b"belongs to the process that opened it" in told.read(), True))
-        os.waitpid(child, 0)
-        check((store.upload(b"abc", tenant).address, ABC), (store.alive, True))
+        with forked(lambda: ended(store.stat) or "nothing is raised") as told:
+            check(("belongs to the process that opened it" in told, True), (store.upload(b"abc", tenant).address, ABC), (store.alive, True))
 
 
 def closes_beside_a_fork():
@@ -149,12 +138,12 @@ def closes_beside_a_fork():
         for count in 1, 16:
             store = Client(server.path, sessions=count)
             free, taken = store._free, store._free.get()
-            with closed_in_a_fork(store) as told:
+            with forked(lambda store=store: f"closed {store.close()}") as told:
                 free.put(taken)
                 closing = threading.Thread(target=store.close, daemon=True)
                 closing.start()
                 closing.join(SECONDS / 2)
-                check((told, b"ok"), (closing.is_alive(), False))
+                check((told, "closed None"), (closing.is_alive(), False))
                 with Client(server.path, sessions=16) as other:
                     check((other.alive, True))
 
@@ -168,38 +157,11 @@ def closes_beside_a_thread():
             thread = threading.Thread(target=work, args=(store,), daemon=True)
             thread.start()
             time.sleep(0.2)
-            with closed_in_a_fork(store) as told:
-                check((told, b"ok"), (thread.is_alive(), True))
+            with forked(lambda store=store: f"closed {store.close()}") as told:
+                check((told, "closed None"), (thread.is_alive(), True))
             store._give_back(taken)
         thread.join(SECONDS / 2)
         check((thread.is_alive(), False))
-
-
-@contextlib.contextmanager
-def closed_in_a_fork(store):
-    """What a new process tells after it has closed a store. It lives until the block is left."""
-    waiting, going = os.pipe()
-    child = os.fork()
-    if child == 0:
-        close_and_wait(store, going)
-    os.close(going)
-    try:
-        with open(waiting, "rb") as told:
-            yield told.read(2)
-    finally:
-        os.kill(child, signal.SIGKILL)
-        os.waitpid(child, 0)
-
-
-def close_and_wait(store, going):
-    """Closes a store that was inherited, tells it, and goes on."""
-    signal.alarm(SECONDS)
-    try:
-        store.close()
-        os.write(going, b"ok")
-        time.sleep(SECONDS)
-    finally:
-        os._exit(0)
 
 
 def stores_that_are_dropped():

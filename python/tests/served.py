@@ -12,7 +12,6 @@ import sys
 import tempfile
 import textwrap
 import threading
-import time
 
 from running import Running
 from shared import ABC, SECONDS, TOP, Interrupted, alarms, check, ended, in_threads, interrupted_calls, raised, refusal, wait_until
@@ -47,6 +46,24 @@ def over_several_runs():
 
 
 @contextlib.contextmanager
+def listening(serve):
+    """The path of a socket, each connection to which is passed to a function, in a thread."""
+    def accept():
+        with contextlib.suppress(OSError):
+            while True:
+                threading.Thread(target=serve, args=(listener.accept()[0],), daemon=True).start()
+
+    with tempfile.TemporaryDirectory() as place, socket.socket(socket.AF_UNIX) as listener:
+        path = os.path.join(place, "socket")
+        listener.bind(path)
+        listener.listen()
+        threading.Thread(target=accept, daemon=True).start()
+        try:
+            yield path
+        finally:
+            listener.shutdown(socket.SHUT_RDWR)
+
+
 def forwarded(target):
     """A socket whose connections are forwarded to another one, by copies of their bytes, as `ssh -L` does. Descriptors are lost."""
     def copy(source, other):
@@ -59,23 +76,13 @@ def forwarded(target):
         with contextlib.suppress(OSError):
             other.shutdown(socket.SHUT_WR)
 
-    def accept():
-        with contextlib.suppress(OSError):
-            while True:
-                ends = listener.accept()[0], socket.socket(socket.AF_UNIX)
-                ends[1].connect(target)
-                for pair in ends, ends[::-1]:
-                    threading.Thread(target=copy, args=pair, daemon=True).start()
+    def serve(connection):
+        other = socket.socket(socket.AF_UNIX)
+        other.connect(target)
+        threading.Thread(target=copy, args=(other, connection), daemon=True).start()
+        copy(connection, other)
 
-    with tempfile.TemporaryDirectory() as place, socket.socket(socket.AF_UNIX) as listener:
-        path = os.path.join(place, "socket")
-        listener.bind(path)
-        listener.listen()
-        threading.Thread(target=accept, daemon=True).start()
-        try:
-            yield path
-        finally:
-            listener.shutdown(socket.SHUT_RDWR)
+    return listening(serve)
 
 
 def over_a_forwarded_socket():
@@ -104,18 +111,14 @@ def servers_that_pass_no_pipes():
             (b"tenant 0\n", [], "the server answers b'tenant 0"), (b"pipes\n", ends[:1], "the server answers"), (b"xxxxxxxx", [], "has closed the connection"),
         )
         for answer, passed, reason in cases:
-            with tempfile.TemporaryDirectory() as place, socket.socket(socket.AF_UNIX) as listener:
-                path = os.path.join(place, "socket")
-                listener.bind(path)
-                listener.listen()
 
-                def serve(listener=listener, answer=answer, passed=passed):
-                    with listener.accept()[0] as connection:
-                        connection.recv(6)
-                        if answer:
-                            connection.sendmsg([answer], [(socket.SOL_SOCKET, socket.SCM_RIGHTS, array.array("i", passed))] if passed else [])
+            def serve(connection, answer=answer, passed=passed):
+                with connection:
+                    connection.recv(6)
+                    if answer:
+                        connection.sendmsg([answer], [(socket.SOL_SOCKET, socket.SCM_RIGHTS, array.array("i", passed))] if passed else [])
 
-                threading.Thread(target=serve, daemon=True).start()
+            with listening(serve) as path:
                 told = ended(Client, path)
                 check((told is not None and reason in told, True))
     check((wait_until(lambda: len(os.listdir("/proc/self/fd")) <= before), True))
@@ -139,39 +142,26 @@ def places_that_are_wrong():
 
 @contextlib.contextmanager
 def server_of(*answers, passes_pipes=True):
-    """A server whose connections get some bytes, each after a line, and are then closed. With None for bytes it waits until the client closes its socket, with
-    a tuple it pauses before each of its bytes."""
-    with tempfile.TemporaryDirectory() as place, socket.socket(socket.AF_UNIX) as listener:
-        path = os.path.join(place, "socket")
-        listener.bind(path)
-        listener.listen()
-        is_done = threading.Event()
+    """A server whose connections get some bytes, each after a line, and are then closed. With None for bytes it waits until the client closes its socket."""
+    is_done = threading.Event()
 
-        def serve(connection):
-            with connection, contextlib.ExitStack() as ending, contextlib.suppress(OSError):
-                ends = ends_of(connection, passes_pipes, ending)
-                for answer in answers if ends else []:
-                    source = select.select(list(ends), [], [])[0][0]
-                    if not os.read(source, 1 << 16):
+    def serve(connection):
+        with connection, contextlib.ExitStack() as ending, contextlib.suppress(OSError):
+            ends = ends_of(connection, passes_pipes, ending)
+            for answer in answers if ends else []:
+                source = select.select(list(ends), [], [])[0][0]
+                if not os.read(source, 1 << 16):
+                    return
+                while answer is None:
+                    if is_done.wait(0.05) or select.select([connection], [], [], 0)[0] and not connection.recv(1 << 16):
                         return
-                    while answer is None:
-                        if is_done.wait(0.05) or select.select([connection], [], [], 0)[0] and not connection.recv(1 << 16):
-                            return
-                    for piece in answer if isinstance(answer, tuple) else [answer]:
-                        time.sleep(0.3 if isinstance(answer, tuple) else 0)
-                        os.write(ends[source], piece)
+                os.write(ends[source], answer)
 
-        def accept():
-            with contextlib.suppress(OSError):
-                while True:
-                    threading.Thread(target=serve, args=(listener.accept()[0],), daemon=True).start()
-
-        threading.Thread(target=accept, daemon=True).start()
+    with listening(serve) as path:
         try:
             yield path
         finally:
             is_done.set()
-            listener.shutdown(socket.SHUT_RDWR)
 
 
 def ends_of(connection, passes_pipes, ending):
@@ -204,11 +194,7 @@ def servers_that_end():
             told = ended(store.tenant)
             check((told is not None and reason in told, True), (ended(store.stat), told), (ended(store.fetch, 0, ABC), told), (store.alive, False))
     with server_of(b"tenant 0\n") as path, Client(path) as store:
-        store.tenant()
-        end = time.monotonic() + SECONDS
-        while store.alive and time.monotonic() < end:
-            time.sleep(0.01)
-        check((store.alive, False))
+        check((store.tenant(), 0), (wait_until(lambda: not store.alive), True))
 
 
 def clients_that_are_closed():

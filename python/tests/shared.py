@@ -68,6 +68,27 @@ def in_threads(call, count):
     return found
 
 
+@contextlib.contextmanager
+def forked(work):
+    """What a function returns, a text, in a new process, which lives until the block is left."""
+    reading, writing = os.pipe()
+    child = os.fork()
+    if child == 0:
+        signal.alarm(SECONDS)
+        try:
+            os.write(writing, work().encode())
+            signal.pause()
+        finally:
+            os._exit(0)
+    os.close(writing)
+    try:
+        with open(reading, "rb", 0) as told:
+            yield told.read(1000).decode()
+    finally:
+        os.kill(child, signal.SIGKILL)
+        os.waitpid(child, 0)
+
+
 class Interrupted(Exception):
     """What a signal's handler raises."""
 

@@ -13,7 +13,7 @@ import sys
 import threading
 
 from running import client_of_a_server, over_both
-from shared import ABC, EMPTY, FOUR, SECONDS, TOP, alarms, check, in_threads, interrupted_calls, raised, refusal
+from shared import ABC, EMPTY, FOUR, SECONDS, TOP, alarms, check, forked, in_threads, interrupted_calls, raised, refusal
 from b3store import MAX_NUMBER, PART_LEN, Counts, Filed, Held, OpenUpload, Refused, Store, Totals, Usage
 from b3store.store import SMALL_LEN
 from b3store.values import half_of_memory
@@ -198,29 +198,18 @@ def stores_after_a_fork():
     """A process that was forked can't use its parent's store, and opens one of its own; the parent goes on."""
     with Store() as store:
         tenant = store.tenant()
-        for taken in False, True:
-            reading, writing = os.pipe()
-            # a thread of the parent may have the lock
-            with store._lock if taken else contextlib.nullcontext():
-                child = os.fork()
-                if child == 0:
-                    use_after_fork(store, writing)
-            os.close(writing)
-            with open(reading, "rb") as told:
-                check((told.read(), b"ValueError True None"))
-            os.waitpid(child, 0)
+        # a thread of the parent may have the lock
+        for lock in contextlib.nullcontext(), store._lock:
+            with lock, forked(lambda: use_after_fork(store)) as told:
+                check((told, "ValueError True None"))
         check((store.upload(b"abc", tenant).address, ABC))
 
 
-def use_after_fork(store, writing):
-    """Tells what a store does in a new process, and ends that."""
-    signal.alarm(SECONDS)
-    try:
-        with Store() as own:
-            is_filed = own.file(own.tenant(), b"abc").address == ABC
-        os.write(writing, f"{raised(store.stat).__name__} {is_filed} {store.close()}".encode())
-    finally:
-        os._exit(0)
+def use_after_fork(store):
+    """What a store does in a new process."""
+    with Store() as own:
+        is_filed = own.file(own.tenant(), b"abc").address == ABC
+    return f"{raised(store.stat).__name__} {is_filed} {store.close()}"
 
 
 def resident():

@@ -64,7 +64,7 @@ class Talk:
         self.send(line.encode() + b"\n", content)
         return self.answer(wait)
 
-    def number(self, line):
+    def ask_number(self, line):
         """The number that an answer has after its word."""
         return int(self.ask(line).split()[1])
 

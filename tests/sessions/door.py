@@ -101,7 +101,7 @@ class Server(Talk):
 
     def all_uploads(self):
         """The open uploads of each tenant, as that session is answered."""
-        return [self.ask(f"uploads {tenant}") for tenant in range(self.number("tenants"))]
+        return [self.ask(f"uploads {tenant}") for tenant in range(self.ask_number("tenants"))]
 
     def end(self):
         """Closes standard input, and gives the exit status."""

@@ -87,7 +87,7 @@ def bad_lines_at_the_door(program):
         check((before.ask("tenant 5000"), b"tenant 0\n"))
         for number, line in enumerate(BAD_LINES, 1):
             knock(server.at, line)
-            check((line, wait_until(lambda: len(server.reported().splitlines()) >= number)), (line, True))
+            check(((line, wait_until(lambda: len(server.reported().splitlines()) >= number)), (line, True)))
         with sessions_of(server, 2) as after:
             check(*((session.ask("usage 0"), b"used 0 reserved 0 limit 5000\n") for session in (before, *after)), (server.end(), 0))
 
@@ -101,7 +101,7 @@ def pipes_that_are_not_there(program):
             for end in missing:
                 os.remove(f"{server.at}.{session.number}.{end}")
             session.knock()
-            check((missing, wait_until(lambda: len(server.reported().splitlines()) >= count)), (missing, True))
+            check(((missing, wait_until(lambda: len(server.reported().splitlines()) >= count)), (missing, True)))
             session.close()
         with sessions_of(server, 3) as after:
             check(*((session.ask("usage 0"), b"used 0 reserved 0 limit 5000\n") for session in after), (server.end(), 0))
@@ -136,7 +136,7 @@ def halves_of_commands(program):
 
 def begun(session):
     """The number of an upload of three bytes that a session begins."""
-    return session.number("begin 0 3")
+    return session.ask_number("begin 0 3")
 
 
 def put_to(session, number):
@@ -163,10 +163,10 @@ def own_uploads_of_clients_that_end(program):
             with server.session() as session:
                 number = begun(session)
                 last_words(session, number)
-            check((name, wait_until(lambda: server.ask("uploads 0") == b"uploads 1\n0 3 3 0\n")), (name, True))
+            check(((name, wait_until(lambda: server.ask("uploads 0") == b"uploads 1\n0 3 3 0\n")), (name, True)))
             check((server.ask("usage 0"), b"used 0 reserved 3 limit 5000\n"))
         with server.session() as session:
-            check((put_to(session, 0), b"held 3 all\n"), (session.number("begin 0 3") > 0, True))
+            check((put_to(session, 0), b"held 3 all\n"), (session.ask_number("begin 0 3") > 0, True))
         check((wait_until(lambda: server.ask("uploads 0") == b"uploads 1\n0 3 3 3\n"), True))
         aborted = [entry for entry in server.ask("journal").splitlines() if entry.startswith(b"abort ")]
         check((b"abort 0" in aborted, False), (len(aborted), len(set(aborted))), (audit_of(program, server), []), (server.end(), 0))

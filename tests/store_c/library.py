@@ -15,6 +15,8 @@ NO_VALUE, IS_OPEN, TRUNCATED = 64, 65, 67
 CARRIED = {4: "use", 6: "free", 9: "at", 10: "missing", 15: "end"}
 WRONG_ADDRESS = 11
 COUNTED = {"b3store_put", "b3store_seal", "b3store_seal_as", "b3store_file"}
+KINDS = {"closed", "store", "part", "object", "text", "list", "uploads", "tenants"}
+"""What a handle may keep, and none."""
 
 
 def struct(*fields):
@@ -71,28 +73,76 @@ class Library:
 
     def __init__(self, path, chance, tenants, entries):
         self.calls, self.chance, self.owners = ctypes.CDLL(path), chance, {}
-        self.store, self.closed, self.text, self.work = Handle(), Handle(), Handle(), c_uint64()
+        self.store, self.work, self.others = Handle(), c_uint64(), {kind: Handle() for kind in KINDS}
         must(self.calls.b3store_open(byref(self.store), c_uint64(tenants), c_uint64(entries), c_uint64(1)) == 0, "a store is opened")
-        must(self.lines(b"", self.text) == 0, "no lines are answered")
+        must(self.lines(b"", self.others["text"]) == 0, "no lines are answered")
+        self.open_others(**{kind: byref(handle) for kind, handle in self.others.items()})
+        self.misuse()
+
+    def open_others(self, store, part, object, list, uploads, tenants, **_):
+        """Fills a handle of each other kind."""
+        number, why, sealed, three = c_uint64(), byref(Why()), Sealed(), (buffer_of(b"abc"), c_size_t(3))
+        for name, *words in (
+            ("open", store, c_uint64(1), c_uint64(9), c_uint64(1)), ("open_tenant", store, c_uint64(9), byref(number), why),
+            ("file", store, c_uint64(0), *three, byref(sealed), byref(number), why, byref(number)),
+            ("prepare", part, c_uint64(3), c_bool(False), c_uint64(0), *three, byref(number)),
+            ("fetch", store, c_uint64(0), byref(sealed.address), object, why), ("list", store, c_uint64(0), list, why),
+            ("uploads", store, c_uint64(0), uploads, why), ("tenants", store, tenants, why),
+        ):
+            must(getattr(self.calls, f"b3store_{name}")(*words) == 0, f"b3store_{name} is done")
 
     def close(self):
-        must(self.calls.b3store_close(byref(self.text)) == 0, "a text is closed")
-        must(self.calls.b3store_close(byref(self.store)) == 0 and not self.store.at, "a store is closed")
-        must(self.calls.b3store_close(byref(self.store)) == NO_VALUE, "a store is closed but once")
+        for handle in self.store, *(handle for kind, handle in self.others.items() if kind != "closed"):
+            must(self.calls.b3store_close(byref(handle)) == 0 and not handle.at, "a handle is closed")
+            self.refuses(NO_VALUE, "close", byref(handle))
 
     # ---- how a call is made
 
+    def misuse(self):
+        """Makes calls with handles of other kinds than they take, and with open ones that they are to fill."""
+        number, room, copied, why = marked(c_uint64), marked(c_uint8 * 16), marked(c_size_t), marked(Why)
+        store, line = byref(self.store), (buffer_of(b"tenant 1\n"), c_size_t(9))
+        for kind, handle in ((kind, byref(handle)) for kind, handle in self.others.items()):
+            if kind not in ("text", "object"):
+                self.refuses(NO_VALUE, "read", handle, c_uint64(0), byref(room), c_size_t(16), byref(copied))
+                self.refuses(NO_VALUE, "len", handle, byref(number))
+            for name, right, row in ("object_rows", "list", ListedObject), ("upload_rows", "uploads", ListedUpload), ("tenant_rows", "tenants", Usage):
+                if kind != right:
+                    self.refuses(NO_VALUE, name, handle, c_uint64(0), byref(marked(row * 2)), c_size_t(2), byref(copied))
+            if kind != "part":
+                self.refuses(NO_VALUE, "put", store, c_uint64(0), handle, byref(marked(Progress)), byref(why), byref(number))
+            if kind != "closed":
+                self.refuses(IS_OPEN, "open", handle, c_uint64(1), c_uint64(1), c_uint64(1))
+                self.refuses(IS_OPEN, "prepare", handle, c_uint64(9), c_bool(False), c_uint64(0), *line, byref(number))
+                self.refuses(IS_OPEN, "lines", store, *line, handle, byref(number))
+            if kind != "store":
+                self.refuses(NO_VALUE, "totals", handle, byref(marked(Totals)))
+                self.refuses(NO_VALUE, "entries", handle, byref(number))
+                self.refuses(NO_VALUE, "lines", handle, *line, byref(Handle()), byref(number))
+
+    def refuses(self, wanted, name, *words):
+        """Makes a call that returns this number, and changes nothing that it is passed."""
+        passed = [word._obj for word in words if hasattr(word, "_obj")]
+        before = [bytes(value) for value in passed]
+        answer = getattr(self.calls, f"b3store_{name}")(*words)
+        must((answer, [bytes(value) for value in passed]) == (wanted, before), f"b3store_{name} returns {answer}, and not {wanted}, and changes nothing")
+
     def command(self, name, *given, out=()):
         """Makes a call on the store, with a `why`, and `work` if it counts. It is refused, or returns what it stored."""
-        if self.chance.random() < 0.05:
-            for wrong in self.closed, self.text:
-                answer, why, _ = self.answer(name, wrong, given, out)
-                must(answer == NO_VALUE and is_marked(why), f"{name} refuses a closed handle and a text")
+        self.need_a_store(name, given, out)
         answer, why, stored = self.answer(name, self.store, given, out)
         if answer == 0:
             must(is_marked(why), f"{name} leaves why")
             return stored
         raise Refused(refusal(name, answer, why))
+
+    def need_a_store(self, name, given, out):
+        """Sometimes makes a call with handles that keep no store."""
+        for kind, handle in self.others.items() if self.chance.random() < 0.05 else ():
+            at = handle.at
+            if kind != "store":
+                answer, why, stored = self.answer(name, handle, given, out)
+                must(answer == NO_VALUE and all(map(is_marked, [why, *stored])) and handle.at == at, f"{name} refuses a handle that has no store: {kind}")
 
     def answer(self, name, store, given, out):
         """The number that a call returns, its `why`, and what it stored, which is nothing if it doesn't return 0."""
@@ -108,9 +158,11 @@ class Library:
     def kept(self, name, *given):
         """The handle that a call fills. Sometimes an open one is passed before, which has to stay."""
         if self.chance.random() < 0.05:
-            at = self.text.at
-            answer, why, _ = self.answer(name, self.store, [*given, byref(self.text)], ())
-            must(answer == IS_OPEN and is_marked(why) and self.text.at == at, f"{name} refuses an open handle")
+            for kind in KINDS - {"closed"}:
+                handle = self.others[kind]
+                at = handle.at
+                answer, why, _ = self.answer(name, self.store, [*given, byref(handle)], ())
+                must(answer == IS_OPEN and is_marked(why) and handle.at == at, f"{name} refuses an open handle")
         handle = Handle()
         try:
             self.command(name, *given, byref(handle))
@@ -225,6 +277,7 @@ class Library:
     def file(self, tenant, data):
         """Files bytes in one call, and says what upload it left if its abort was refused."""
         words = [c_uint64(tenant), buffer_of(data), c_size_t(len(data))]
+        self.need_a_store("b3store_file", words, [Sealed, c_uint64])
         answer, why, (sealed, left) = self.answer("b3store_file", self.store, words, [Sealed, c_uint64])
         if answer == 0:
             must(left.value == NONE and is_marked(why), "b3store_file leaves nothing")

@@ -64,7 +64,7 @@ def clients_that_leave():
     """Their uploads are aborted, also those whose answers they never read, and no half of a command is done, through the socket or through pipes."""
     with Running("--sessions", "2", "--wait", "60") as server, server.client() as other:
         other.ask("tenant 1000000000")
-        kept = other.number("begin 0 7")
+        kept = other.ask_number("begin 0 7")
         halves = (b"", b"limit 0 5", b"putb 1 0 1024\nabc", b"begin 0 5\n" * 500, b"begin 0 5\nentries 0\n" * 200, b"fetchb 0 " + b"0" * 64)
         for kind, half in itertools.product((Connection, Piped), halves):
             with kind(server.path) as client:

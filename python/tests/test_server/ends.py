@@ -146,7 +146,7 @@ def too_large_for_the_store():
         address = other.file(b"kept")
         kept = other.ask(f"fetchb 0 {address}")
         with server.client() as client:
-            upload, part, count = client.number(f"open 0 {1 << 40}"), bytes(1 << 20), 0
+            upload, part, count = client.ask_number(f"open 0 {1 << 40}"), bytes(1 << 20), 0
             answer = client.ask(f"putb {upload} 0 {len(part)}", part)
             while answer.startswith(b"held") and count < 300:
                 count += 1

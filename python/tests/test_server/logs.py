@@ -5,7 +5,6 @@ import itertools
 import os
 import random
 import resource
-import shutil
 import signal
 import subprocess
 import tempfile
@@ -16,7 +15,7 @@ from unittest import mock
 
 from judging import check, wait_until
 from redoing import files_in, is_saved, save_folder, saved_in, state_of
-from running import AS_MODULE, CLEAN, PROGRAM, SECONDS, Running, fails
+from running import AS_MODULE, PROGRAM, SECONDS, Running, fails
 from shared import raised
 from b3store import Client, Ended
 from b3store.server_store import StoreProcess
