@@ -2,13 +2,10 @@
 import asyncio
 import concurrent.futures
 import functools
-from types import TracebackType
-from typing import Any, AsyncIterator, Awaitable, Callable, Optional, Type, TypeVar
+from typing import Any, AsyncIterator, Awaitable, Callable
 
-from .commands import Commands
+from .commands import Commands, Value
 from .values import MAX_SESSIONS, RANGE_LEN, check_number
-
-Value = TypeVar("Value")
 
 OTHERS = frozenset(("close", "journal", "open", "ranges", "start_upload"))
 """The methods of a store that return no value, but something that is used step by step."""
@@ -34,7 +31,7 @@ class AsyncStore:
     async def __aenter__(self) -> "AsyncStore":
         return self
 
-    async def __aexit__(self, kind: Optional[Type[BaseException]], fault: Optional[BaseException], trace: Optional[TracebackType]) -> None:
+    async def __aexit__(self, *_: Any) -> None:
         await self.close()
 
     async def run(self, call: Callable[..., Value], *words: Any, **options: Any) -> Value:

@@ -7,14 +7,13 @@ import queue
 import socket
 import threading
 import time
-from typing import Any, Callable, List, Optional, Sequence, TypeVar, Union
+from typing import Any, Callable, List, Optional, Sequence, Union
 
 from .sessions import BUSY, READ_LEN, Session
-from .commands import Commands, opened
+from .commands import Commands, Value, opened
 from .values import MAX_SESSIONS, Ended, Refused, check_number
 
 Place = Union[str, bytes, "os.PathLike[str]"]
-Value = TypeVar("Value")
 
 ASK_FOR_PIPES = b"pipes\n"
 """The line that asks a server for the two pipes of a session, and the line that they come with."""
@@ -55,8 +54,6 @@ class Client(Commands):
 
         with Client("/run/b3store/socket") as store:
             filed = store.upload(b"abc", tenant)
-
-    `tenant` is the number of a tenant that was opened once (docs/USE.md has an example): one can't be closed, and a store has at most 65,536.
 
     Each connection is one session. A client opens `sessions` of them, at most as many as the server has; threads that share the client wait for a free
     one. The server passes it the sessions' pipes, so that it moves no bytes itself; where it can't, as through `ssh`, they go through the socket. When a

@@ -4,8 +4,7 @@ import itertools
 import os
 import sys
 import weakref
-from types import TracebackType
-from typing import Any, BinaryIO, Callable, Dict, Iterator, List, Optional, Sequence, Type, TypeVar, Union
+from typing import Any, BinaryIO, Callable, Dict, Iterator, List, Optional, Sequence, TypeVar, Union
 
 from .redo import run_lines
 from .sessions import Session
@@ -43,7 +42,7 @@ class Commands:
     def __enter__(self: Self) -> Self:
         return self
 
-    def __exit__(self, kind: Optional[Type[BaseException]], fault: Optional[BaseException], trace: Optional[TracebackType]) -> None:
+    def __exit__(self, *_: Any) -> None:
         self.close()
 
     def tenant(self, limit: Optional[int] = None) -> int:

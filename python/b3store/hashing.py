@@ -98,8 +98,7 @@ class blake3:  # named as hashlib's classes are
                 fault = small_hash(kept, SIZE(len(kept)), out, OUTPUT_SIZE, SMALL_COUNT)
             if fault:
                 raise ValueError(FAULTS[fault])
-            digest: bytes = out.raw
-            return digest
+            return bytes(out.raw)
         length, position = check_number("length", length, 0, sys.maxsize), check_number("position", position)
         out = ctypes.create_string_buffer(max(length, 1))
         if self._hasher is not None:

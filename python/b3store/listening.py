@@ -11,8 +11,6 @@ from .console import error_text
 from .files import FolderInUse, lock_folder
 from .values import StoreError
 
-FIRST_PASSED = 3
-"""The first descriptor that systemd passes."""
 BACKLOG = 1024
 SECONDS_TO_LOCK, SECONDS_TO_NOTIFY = 2.0, 1.0
 """How long another server may take to replace a socket, and systemd to take a report."""
@@ -78,10 +76,10 @@ def listen_at(path: str) -> Listener:
 
 
 def inherited() -> List[Listener]:
-    """The listening sockets that systemd passes to this process. Programs that it starts don't see them."""
+    """The listening sockets that systemd passes to this process, from descriptor 3 on. Programs that it starts don't see them."""
     count, owner = os.environ.pop("LISTEN_FDS", ""), os.environ.pop("LISTEN_PID", "")
     os.environ.pop("LISTEN_FDNAMES", None)
-    return [passed(descriptor) for descriptor in range(FIRST_PASSED, FIRST_PASSED + int(count))] if count and owner == str(os.getpid()) else []
+    return [passed(descriptor) for descriptor in range(3, 3 + int(count))] if count and owner == str(os.getpid()) else []
 
 
 def passed(descriptor: int) -> Listener:

@@ -16,7 +16,6 @@ if TYPE_CHECKING:
 LINE = re.compile(rb"(?:tenant [0-9]{1,19}|limit [0-9]{1,19} [0-9]{1,19}|forget [0-9]{1,19} [0-9a-f]{64}|fileas ([0-9]{1,19}) ([0-9a-f]{64}) ([0-9]{1,14}))\n")
 WORDS = (b"tenant ", b"limit ", b"forget ", b"fileas ")
 DONE = f"tenant N|ok|{FILED}"
-"""The form of answers to lines that were run."""
 MAX_LINE_LEN = 1 << 7
 MAX_BATCH = 40
 """How many lines are sent before the first one's answer is read. Their answers fit into the smallest pipe, of 4096 bytes: Linux gives such ones to a user who

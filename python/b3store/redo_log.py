@@ -33,7 +33,6 @@ LINE_LEN, SYNC_LEN, MIN_REPLACED_LEN = 88, 1 << 28, 1 << 20
 SECONDS_OF_WRITING, SECONDS_BETWEEN_TRIES = 0.5, 60.0
 """For how long a log is written anew before the old one is extended again; and how long after it couldn't be written anew this is tried again."""
 ERRORS = (OSError, StoreError, MemoryError, ValueError)
-"""What can fail."""
 
 
 class SaveError(StoreError):

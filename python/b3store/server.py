@@ -48,7 +48,6 @@ SECONDS_BETWEEN_LOOKS, SECONDS_AT_REST = 0.02, 5.0
 MAX_READS, STACK = 16, 1 << 18
 """How often more is read from a client that is sent `busy`; and the stack of a thread."""
 WRITING = threading.Lock()
-"""Is held while a line is written to a standard stream."""
 EPILOG = """\
 example:
   $ python -m b3store.server --socket /tmp/store --save /tmp/saved &

@@ -13,15 +13,13 @@ import subprocess
 import tempfile
 import threading
 import time
-from typing import Any, Callable, Iterator, List, NamedTuple, Optional, TypeVar
+from typing import Any, Callable, Iterator, List, NamedTuple, Optional
 
 from .console import error_text
 from .files import FolderInUse, lock_folder
 from .sessions import Session, set_pipe_size
-from .commands import Commands
+from .commands import Commands, Value
 from .values import Ended, Refused, StoreError
-
-Value = TypeVar("Value")
 
 SECONDS_TO_WAIT = 30.0
 """How long the program may take to answer, to open a session, and to exit once its standard input is closed."""

@@ -8,10 +8,8 @@ from typing import Any, BinaryIO, Callable, List, Optional
 
 from .values import Buffer, Ended, Refused, parse
 
-READ_LEN = 1 << 16
-"""The length of a session's read buffer."""
-PIECE_LEN = 1 << 20
-"""The length of the pieces in which many raw bytes are read."""
+READ_LEN, PIECE_LEN = 1 << 16, 1 << 20
+"""The length of a session's read buffer, and of the pieces in which many raw bytes are read."""
 MAX_LINE_LEN = 1 << 12
 """The maximum length of a line of an answer. All that a store writes are much shorter."""
 SET_PIPE_SIZE = 1031
@@ -19,7 +17,6 @@ SET_PIPE_SIZE = 1031
 
 BUSY = "the server is busy: each of its sessions has a client"
 REFUSED = "refused ([SF][0-9]{1,2})(?: ([a-z]+) (?:N|A))?"
-"""The form of an answer that is a refusal."""
 
 
 def set_pipe_size(pipe: Any, size: int) -> None:

@@ -4,11 +4,11 @@ import ctypes
 import functools
 import io
 import threading
-from typing import Any, Callable, List, Optional, Tuple, TypeVar
+from typing import Any, Callable, List, Optional, Tuple
 
 from .library import BOUND, NONE, PROGRESS, SEALED, SIZE, U64, WHY, Handle, Result, address_of, load, new_bytes, refusal_of
 from .sessions import READ_LEN, Session
-from .commands import Commands, opened
+from .commands import Commands, Value, opened
 from .transfers import Upload, split
 from .values import Buffer, Filed, Held, Refused, check_room
 
@@ -21,8 +21,6 @@ SMALL_LEN = 1 << 14
 LONG = (b"entries", b"fileas", b"list", b"objects", b"redo", b"tenants", b"uploads")
 """How lines begin that may take long."""
 MAX_TENANTS, MAX_ENTRIES, WORKERS = 1 << 16, 1 << 32, 1
-
-Value = TypeVar("Value")
 
 
 @functools.lru_cache(maxsize=None)
@@ -68,11 +66,6 @@ class Answers(io.RawIOBase):
 
 class Store(Commands):
     """A store in the memory of this process. When it is closed, dropped, or the process ends, everything in it is lost.
-
-        with Store() as store:
-            tenant = store.tenant(1 << 30)
-            filed = store.upload(b"abc", tenant)
-            assert store.fetch(tenant, filed.address) == b"abc"
 
     Threads can share it: they hash and copy side by side, and take turns for a few microseconds for each command. After it is closed, calls raise ValueError;
     so they do in a process that was forked, which opens a store of its own."""
@@ -140,8 +133,7 @@ class Store(Commands):
             offset += part.nbytes
 
     def _fetch(self, tenant: int, address: str, offset: int, length: int) -> bytes:
-        content: bytes = self._read(tenant, address, offset, length)[0]
-        return content
+        return bytes(self._read(tenant, address, offset, length)[0])
 
     def _read_into(self, tenant: int, address: str, view: memoryview, offset: int, min_len: int = 0) -> int:
         return self._read(tenant, address, offset, view.nbytes, ctypes.c_void_p(address_of(view)))[1]

@@ -10,27 +10,16 @@ Buffer = Any
 
 CHUNK_LEN = 1024
 """Each part starts at a multiple of this, and its length is a multiple of this too, unless it is an upload's last part."""
-MAX_PART_LEN = 1 << 24
-"""The maximum length of a part, in bytes."""
-MAX_UPLOAD_LEN = 1 << 44
-"""The maximum length of an upload, in bytes."""
-MAX_LIMIT = 1 << 46
-"""The maximum limit of a tenant, in bytes."""
-MAX_NUMBER = (1 << 64) - 1
-"""The maximum of every number that a command takes."""
-MAX_DIGITS = 20
-"""The maximum number of digits of a number in an answer."""
-MAX_SESSIONS = 64
-"""The maximum number of a store's sessions."""
-PART_LEN = 1 << 20
-"""The length of the parts that an upload is split into."""
-RANGE_LEN = 1 << 18
-"""The default length of the ranges in which an object is read."""
+MAX_PART_LEN, MAX_UPLOAD_LEN, MAX_LIMIT = 1 << 24, 1 << 44, 1 << 46
+"""The maximum length of a part and of an upload, and the maximum limit of a tenant, in bytes."""
+MAX_NUMBER, MAX_SESSIONS = (1 << 64) - 1, 64
+"""The maximum of every number that a command takes, and of a store's sessions."""
+PART_LEN, RANGE_LEN = 1 << 20, 1 << 18
+"""The length of the parts that an upload is split into, and the default length of the ranges in which an object is read."""
 MAX_REDONE = 1 << 12
 """The maximum number of entries that one answer of `redo` is for."""
 
 FILED = "(new|known) A L"
-"""The form of an answer to a command that files an object."""
 ADDRESS = re.compile("[0-9a-fA-F]{64}")
 
 REFUSALS = {
@@ -225,4 +214,5 @@ def parse(form: str, line: str) -> List[Any]:
     found = pattern_of(form).fullmatch(line)
     if not found:
         raise ValueError(f"{line[:60]!r} has another form than {form!r}")
-    return [int(text) if text and text.isdigit() and len(text) <= MAX_DIGITS else text for text in found.groups()]
+    # an address may have digits alone
+    return [int(text) if text and text.isdigit() and len(text) < 64 else text for text in found.groups()]
