@@ -14,8 +14,8 @@ import warnings
 from pathlib import Path
 
 from served import server_of
-from running import Running, client_of_a_server, over_both
-from shared import ABC, FOUR, SECONDS, TOP, check, ended, forked, raised, wait_until
+from running import Running, client_of_a_server, environment, listen_to_signals, over_both, run
+from shared import ABC, FOUR, SECONDS, check, ended, forked, raised, wait_until
 from b3store import AsyncStore, Client, Store
 from b3store.sessions import MAX_LINE_LEN, Session
 
@@ -85,11 +85,8 @@ def gets_that_fail():
     with server_of(b"has 3\n", b"bytes 2\nab") as path, tempfile.TemporaryDirectory() as place:
         file = os.path.join(place, "file")
         Path(file).write_bytes(b"old")
-        words = [sys.executable, "-m", "b3store", "--socket", path, "get", "--tenant", "0", ABC, "-o", file]
-        ran = subprocess.run(words, cwd=os.path.join(TOP, "python"), stdout=subprocess.PIPE, stderr=subprocess.PIPE, timeout=SECONDS)
-        with open(file, "rb") as old:
-            check((old.read(), b"old"), (os.listdir(place), ["file"]))
-        check((ran.returncode, 3), (b"makes no sense" in ran.stderr, True))
+        status, _, told = run(["--socket", path, "get", "--tenant", "0", ABC, "-o", file])
+        check((status, 3), ("makes no sense" in told, True), (Path(file).read_bytes(), b"old"), (os.listdir(place), ["file"]))
 
 
 def gets_that_are_ended():
@@ -106,7 +103,7 @@ def ended_get(python, number, prepare):
     """What is wrong with the end of a `get` into a file, which these words run, at a signal."""
     with server_of(b"has 3\n", None) as path, tempfile.TemporaryDirectory() as place:
         words = [sys.executable, *python, "--socket", path, "get", "--tenant", "0", ABC, "-o", os.path.join(place, "file")]
-        with subprocess.Popen(words, cwd=os.path.join(TOP, "python"), stdout=subprocess.PIPE, stderr=subprocess.PIPE, preexec_fn=prepare) as get:
+        with subprocess.Popen(words, stdout=subprocess.PIPE, stderr=subprocess.PIPE, preexec_fn=prepare, env=environment()) as get:
             check((wait_until(lambda: os.listdir(place)), True))
             get.send_signal(number)
             check((get.communicate(timeout=SECONDS), (b"", b"")), (get.returncode, 128 + number), (os.listdir(place), []))
@@ -116,12 +113,6 @@ def work_in_the_background():
     """A shell without job control lets what is in its background ignore SIGINT."""
     listen_to_signals()
     signal.signal(signal.SIGINT, signal.SIG_IGN)
-
-
-def listen_to_signals():
-    """A shell starts what is in its background with SIGINT ignored, and nohup ignores SIGHUP."""
-    for number in signal.SIGHUP, signal.SIGINT, signal.SIGTERM:
-        signal.signal(number, signal.SIG_DFL)
 
 
 def processes_that_inherit():

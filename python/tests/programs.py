@@ -8,8 +8,7 @@ import sys
 import tempfile
 import time
 
-from running import Running
-from hostile import listen_to_signals
+from running import Running, environment, listen_to_signals, run, run_python
 from shared import ABC, EMPTY, FOUR, SECONDS, TOP, check, wait_until
 from served import server_of
 from transfers import PART_LEN, content_of
@@ -18,17 +17,6 @@ from pathlib import Path
 from b3store import Client
 from b3store.values import half_of_memory
 
-PACKAGE = os.path.join(TOP, "python")
-
-
-def environment(**variables):
-    return {**os.environ, "PYTHONPATH": PACKAGE, "PYTHONDONTWRITEBYTECODE": "1", **variables}
-
-
-def run(words, data=b"", command=(sys.executable, "-m", "b3store"), prepare=None, **variables):
-    """The status, standard output and standard error of a run."""
-    ran = subprocess.run([*command, *words], input=data, capture_output=True, timeout=SECONDS, env=environment(**variables), preexec_fn=prepare)
-    return ran.returncode, ran.stdout, ran.stderr.decode()
 
 
 def run_in_shell(line):
@@ -220,13 +208,13 @@ def ends_while_it_starts():
             with open(os.path.join(place, module + ".py"), "w", encoding="ascii") as file:
                 file.write("import os, signal\nos.kill(os.getpid(), signal.SIGINT)\n")
             for words in programs:
-                ran = run(words, command=[sys.executable], prepare=listen_to_signals, PYTHONPATH=f"{place}:{PACKAGE}")
+                ran = run_python(*words, prepare=listen_to_signals, PYTHONPATH=f"{place}:{os.path.join(TOP, 'python')}")
                 check(((module, words, ran), (module, words, (-signal.SIGINT, b"", ""))))
 
 
 def starts_without(module):
     """Whether Python runs a module without importing this one itself."""
-    return subprocess.run([sys.executable, "-c", f"import runpy, sys; sys.exit({module!r} in sys.modules)"], check=False).returncode == 0
+    return run_python("-c", f"import runpy, sys; sys.exit({module!r} in sys.modules)")[0] == 0
 
 
 def ends_while_it_ends():
@@ -250,4 +238,4 @@ def ends_at_signals_while_it_ends():
 
 def run_text(text):
     """The status, standard output and standard error of a program of Python, which no signal finds ignored."""
-    return run(["-c", text], command=[sys.executable], prepare=listen_to_signals)
+    return run_python("-c", text, prepare=listen_to_signals)

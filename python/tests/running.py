@@ -178,11 +178,25 @@ def environment(**variables):
     return {**os.environ, "PYTHONPATH": os.path.join(TOP, "python"), "PYTHONDONTWRITEBYTECODE": "1", **variables}
 
 
+def run(words, data=b"", command=(sys.executable, "-m", "b3store"), prepare=None, **variables):
+    """The status, standard output and standard error of a run."""
+    ran = subprocess.run([*command, *words], input=data, capture_output=True, timeout=5 * SECONDS, env=environment(**variables), preexec_fn=prepare)
+    return ran.returncode, ran.stdout, ran.stderr.decode(errors="replace")
+
+
+def run_python(*words, **how):
+    return run(words, command=[sys.executable], **how)
+
+
 def fails(*words, **variables):
     """The status and the standard error of a server that can't start."""
-    command = [sys.executable, *AS_MODULE, "--program", PROGRAM, *words]
-    run = subprocess.run(command, stdin=subprocess.DEVNULL, capture_output=True, timeout=SECONDS, env=environment(**variables))
-    return run.returncode, run.stderr.decode(errors="replace")
+    return run_python(*AS_MODULE, "--program", PROGRAM, *words, **variables)[::2]
+
+
+def listen_to_signals():
+    """A shell starts what is in its background with SIGINT ignored, and nohup ignores SIGHUP."""
+    for number in signal.SIGHUP, signal.SIGINT, signal.SIGTERM:
+        signal.signal(number, signal.SIG_DFL)
 
 
 @contextlib.contextmanager

@@ -8,12 +8,11 @@ import os
 import pickle
 import resource
 import signal
-import subprocess
 import sys
 import threading
 
-from running import client_of_a_server, over_both
-from shared import ABC, EMPTY, FOUR, SECONDS, TOP, alarms, check, forked, in_threads, interrupted_calls, raised, refusal
+from running import client_of_a_server, over_both, run_python
+from shared import ABC, EMPTY, FOUR, SECONDS, alarms, check, forked, in_threads, interrupted_calls, raised, refusal
 from b3store import MAX_NUMBER, PART_LEN, Counts, Filed, Held, OpenUpload, Refused, Store, Totals, Usage
 from b3store.store import SMALL_LEN
 from b3store.values import half_of_memory
@@ -266,9 +265,7 @@ print(refusals > 0, errors > 0, store.stat().objects > 0)
 
 def stores_without_memory():
     """What there is no memory for is refused, or raises MemoryError, and no upload is left of it."""
-    environment = {**os.environ, "PYTHONPATH": os.path.join(TOP, "python")}
-    ran = subprocess.run([sys.executable, "-c", WITHOUT_MEMORY], capture_output=True, timeout=SECONDS, env=environment)
-    check((ran.stderr.decode()[-300:], ""), (ran.stdout, b"True True True\n"))
+    check((run_python("-c", WITHOUT_MEMORY), (0, b"True True True\n", "")))
 
 
 def interrupts_at_any_moment():
