@@ -63,62 +63,24 @@ class Chooser:
             number = self.upload()
             offset, length, fill = self.part(number)
             return f"putb {number} {offset} {length}", (fill, length)
-        return getattr(self, f"line_of_{kind}", lambda: f"{kind} {self.tenant()}")(), (0, 0)
+        return LINES.get(kind, lambda it: f"{kind} {it.tenant()}")(self), (0, 0)
 
-    def line_of_put(self):
+    def any_fix(self):
+        number = self.upload()
+        return f"fix {number} {self.uploads.get(number, 5) if self.chance.random() < 0.6 else self.chance.choice(LENGTHS)}"
+
+    def any_put(self):
         number = self.upload()
         offset, length, fill = self.part(number)
         return f"put {number} {offset} x:{(bytes([fill]) * length).hex()}"
 
-    def line_of_tenant(self):
-        return f"tenant {self.chance.choice(LIMITS)}"
-
-    def line_of_limit(self):
+    def any_limit(self):
         self.limits += 1
         return f"limit {self.tenant()} {20000 + 64 * (self.limits * 7 % 300) + self.number}"
 
-    def line_of_begin(self):
-        return f"begin {self.tenant()} {self.chance.choice(LENGTHS) if self.chance.random() < 0.97 else 0}"
-
-    def line_of_open(self):
-        return f"open {self.tenant()} {self.chance.choice(LENGTHS)}"
-
-    def line_of_fix(self):
-        number = self.upload()
-        return f"fix {number} {self.uploads.get(number, 5) if self.chance.random() < 0.6 else self.chance.choice(LENGTHS)}"
-
-    def line_of_seal(self):
-        return f"seal {self.upload()}"
-
-    def line_of_sealas(self):
-        return f"sealas {self.upload()} {self.address()}"
-
-    def line_of_abort(self):
-        return f"abort {self.upload()}"
-
-    def line_of_forget(self):
-        return f"forget {self.tenant()} {self.address()}"
-
-    line_of_bad = staticmethod(lambda: "frob 1")
-    line_of_stat = staticmethod(lambda: "stat")
-    line_of_tenants = staticmethod(lambda: "tenants")
-    line_of_journal = staticmethod(lambda: "journal")
-
-    def line_of_fetch(self):
-        return f"fetch {self.tenant()} {self.address()}"
-
-    def line_of_fetchb(self):
+    def any_fetchb(self):
         ranged = f" {self.chance.choice(LENGTHS)} {self.chance.choice(LENGTHS)}" if self.chance.random() < 0.3 else ""
         return f"fetchb {self.tenant()} {self.address()}{ranged}"
-
-    def line_of_has(self):
-        return f"has {self.tenant()} {self.address()}"
-
-    def line_of_entries(self):
-        return f"entries {self.entries}"
-
-    def line_of_counted(self):
-        return f"entries {max(0, self.entries - self.chance.randrange(9))} {self.chance.choice((0, 1, 2, 5, 1000))}"
 
     def see(self, line, answer):
         """Remembers what an answer says about uploads, addresses and the journal."""
@@ -140,6 +102,24 @@ class Chooser:
             self.entries = int(asked[1]) + int(words[1])
         while len(self.uploads) > 12:
             del self.uploads[next(iter(self.uploads))]
+
+
+LINES = {
+    "limit": Chooser.any_limit, "fix": Chooser.any_fix, "put": Chooser.any_put, "fetchb": Chooser.any_fetchb,
+    "tenant": lambda it: f"tenant {it.chance.choice(LIMITS)}",
+    "begin": lambda it: f"begin {it.tenant()} {it.chance.choice(LENGTHS) if it.chance.random() < 0.97 else 0}",
+    "open": lambda it: f"open {it.tenant()} {it.chance.choice(LENGTHS)}",
+    "seal": lambda it: f"seal {it.upload()}",
+    "sealas": lambda it: f"sealas {it.upload()} {it.address()}",
+    "abort": lambda it: f"abort {it.upload()}",
+    "forget": lambda it: f"forget {it.tenant()} {it.address()}",
+    "fetch": lambda it: f"fetch {it.tenant()} {it.address()}",
+    "has": lambda it: f"has {it.tenant()} {it.address()}",
+    "entries": lambda it: f"entries {it.entries}",
+    "counted": lambda it: f"entries {max(0, it.entries - it.chance.randrange(9))} {it.chance.choice((0, 1, 2, 5, 1000))}",
+    "bad": lambda it: "frob 1", "stat": lambda it: "stat", "tenants": lambda it: "tenants", "journal": lambda it: "journal",
+}
+"""The lines of commands; any other has a tenant alone."""
 
 
 class Log:

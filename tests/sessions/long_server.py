@@ -112,7 +112,7 @@ class Client:
             act = "next"
         if act in ("next", "seal", "repeat", "abort") and not self.uploads:
             act = "begin"
-        found = getattr(self, f"line_of_{act}", lambda: f"{act} {self.tenant}")()
+        found = LINES.get(act, lambda it: f"{act} {it.tenant}")(self)
         return found if isinstance(found, tuple) else (found, (0, 0, 0))
 
     def upload(self):
@@ -126,7 +126,7 @@ class Client:
         """An address, mostly one that the tenant holds."""
         return self.chance.choice(list(self.held) if self.held and self.chance.random() < 0.8 else shared_addresses())
 
-    def line_of_begin(self):
+    def any_begin(self):
         self.begun += 1
         seed = self.chance.randrange(CONTENTS) if self.chance.random() < 0.8 else 1_000_000 * self.number + self.begun
         length = len(content_of(seed))
@@ -134,7 +134,7 @@ class Client:
             return f"begin {self.tenant} {length}", (seed, 0, 0)
         return f"open {self.tenant} {length + self.chance.choice((0, 1, 1024, 5000))}", (seed, 0, 0)
 
-    def line_of_next(self):
+    def any_next(self):
         """What is next to be done for an upload: a part, its end or its seal."""
         number = self.upload()
         upload = self.uploads[number]
@@ -153,7 +153,7 @@ class Client:
             return f"put {number} {offset} x:{content_of(upload.seed)[offset : offset + length].hex()}"
         return f"putb {number} {offset} {length}", (upload.seed, offset, length)
 
-    def line_of_repeat(self):
+    def any_repeat(self):
         """A part of an upload, whether it is held or not, or one at a wrong place."""
         number = self.upload()
         offsets = list(self.uploads[number].lengths)
@@ -161,35 +161,10 @@ class Client:
             return f"put {number} {self.chance.choice((5, 1 << 43))} x:01020304"
         return self.put(number, self.chance.choice(offsets))
 
-    def line_of_seal(self):
-        return f"seal {self.upload()}"
-
-    def line_of_abort(self):
-        return f"abort {self.upload()}"
-
-    def line_of_forget(self):
-        return f"forget {self.tenant} {self.chance.choice(list(self.held))}"
-
-    def line_of_limit(self):
-        return f"limit {self.tenant} {LIMIT + self.chance.randrange(1000)}"
-
-    def line_of_fetch(self):
+    def any_fetch(self):
         address = self.address()
         is_short = self.held.get(address, LIMIT) <= OWN_LENGTH and self.chance.random() < 0.2
         return f"{'fetch' if is_short else 'fetchb'} {self.anyone()} {address}"
-
-    def line_of_range(self):
-        return f"fetchb {self.anyone()} {self.address()} {self.chance.choice((0, 1, 1000, 40_000))} {self.chance.choice((1, 3000, 1 << 20))}"
-
-    def line_of_has(self):
-        return f"has {self.anyone()} {self.address()}"
-
-    def line_of_entries(self):
-        return f"entries {self.seen}"
-
-    line_of_bad = staticmethod(lambda: "frob 1")
-    line_of_stat = staticmethod(lambda: "stat")
-    line_of_tenants = staticmethod(lambda: "tenants")
 
     def lose(self, line, taken):
         """Remembers what was sent and not answered: an upload may have begun."""
@@ -231,6 +206,20 @@ class Client:
         for number, (bound, is_open) in bounds.items():
             if number not in self.uploads and bound in self.unanswered:
                 self.uploads[number] = Upload(self.unanswered[bound], is_open, self.chance)
+
+
+LINES = {
+    "begin": Client.any_begin, "next": Client.any_next, "repeat": Client.any_repeat, "fetch": Client.any_fetch,
+    "seal": lambda it: f"seal {it.upload()}",
+    "abort": lambda it: f"abort {it.upload()}",
+    "forget": lambda it: f"forget {it.tenant} {it.chance.choice(list(it.held))}",
+    "limit": lambda it: f"limit {it.tenant} {LIMIT + it.chance.randrange(1000)}",
+    "range": lambda it: f"fetchb {it.anyone()} {it.address()} {it.chance.choice((0, 1, 1000, 40_000))} {it.chance.choice((1, 3000, 1 << 20))}",
+    "has": lambda it: f"has {it.anyone()} {it.address()}",
+    "entries": lambda it: f"entries {it.seen}",
+    "bad": lambda it: "frob 1", "stat": lambda it: "stat", "tenants": lambda it: "tenants",
+}
+"""The lines of acts, most of them without bytes after them; any other has the tenant alone."""
 
 
 def length_of(command):
