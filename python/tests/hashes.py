@@ -4,22 +4,18 @@ import gzip
 import hashlib
 import io
 import os
-import random
 import sys
 import tempfile
 from pathlib import Path
 
 from shared import ABC, EMPTY, check, in_threads, raised
 from judging import judged
+from transfers import content_of
 
 LENGTHS = (0, 1, 63, 64, 65, 1023, 1024, 1025, 4095, 4096, 4097, 10000, 1 << 20, (1 << 20) + 1, 3 << 20, (5 << 20) + 77)
 KEY = b"whats the Elvish word for friend"
 KEYED = "92b2b75604ed3c761f9d6f62392c8a9227ad0ea3f09573e783f1498a4ed60d26"
 """The keyed hash of no bytes."""
-
-
-def content_of(length):
-    return random.Random(length).getrandbits(8 * length + 8).to_bytes(length + 1, "little")[:length]
 
 
 def equal_ways():

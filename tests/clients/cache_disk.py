@@ -265,20 +265,4 @@ def signals():
             check((cache.put("/k", b"abc"), 201), (cache.stop()[0], 0))
 
 
-def removed_files():
-    """If its log is removed while it runs, all is written again. Without its folder nothing can be changed, but all is given."""
-    with tempfile.TemporaryDirectory() as place, Cache(os.path.join(place, "cache")) as cache:
-        log = os.path.join(cache.folder, "log")
-        check((cache.put("/k", b"abc"), 201))
-        os.remove(log)
-        check((wait_until(lambda: os.path.exists(log) and os.path.getsize(log) > 100), True), (cache.put("/l", bytes(2000000)), 201), (cache.stop()[0], 0))
-        with Cache(cache.folder) as again:
-            check((again.get("/k"), b"abc"), (again.get("/l"), bytes(2000000)))
-            shutil.rmtree(cache.folder)
-            check((wait_until(lambda: again.ask("GET", "/healthz")[0] == 503), True), (again.put("/m", b"x"), 503), (again.get("/k"), b"abc"))
-            check((again.stop()[0], 1), (len(again.reports()), 2))
-
-
-CASES = (
-    restarts, kills, full_disks, bodies_without_disk, damaged_logs, other_folders, answers_while_it_loads, signals, removed_files,
-)
+CASES = restarts, kills, full_disks, bodies_without_disk, damaged_logs, other_folders, answers_while_it_loads, signals

@@ -22,7 +22,25 @@ def altered(**constants):
     return ["-c", "\n".join([*lines, before, "sys.exit(cache.main())"])]
 
 
-class Cache:
+class Asked:
+    """A server of HTTP at a port."""
+
+    def ask(self, method, key, body=None, headers=()):
+        """The status and the content of an answer."""
+        return self.answer(method, key, body, headers)[:2]
+
+    def answer(self, method, key, body=None, headers=()):
+        """The status, the content and the headers of an answer."""
+        connection = http.client.HTTPConnection("127.0.0.1", self.port, timeout=SECONDS)
+        try:
+            connection.request(method, key, body, dict(headers), encode_chunked=body is not None and not isinstance(body, bytes))
+            answer = connection.getresponse()
+            return answer.status, answer.read(), answer.headers
+        finally:
+            connection.close()
+
+
+class Cache(Asked):
     """A cache in a process of its own, in a group of its own as a command at a terminal has."""
 
     def __init__(self, folder, *words, server=(SERVER,), loads=True, **how):
@@ -56,20 +74,6 @@ class Cache:
         if self.process.poll() is None:
             self.process.send_signal(number)
         return self.process.wait(SECONDS), self.process.stdout.read()
-
-    def ask(self, method, key, body=None, headers=()):
-        """The status and the content of an answer."""
-        return self.answer(method, key, body, headers)[:2]
-
-    def answer(self, method, key, body=None, headers=()):
-        """The status, the content and the headers of an answer."""
-        connection = http.client.HTTPConnection("127.0.0.1", self.port, timeout=SECONDS)
-        try:
-            connection.request(method, key, body, dict(headers), encode_chunked=body is not None and not isinstance(body, bytes))
-            answer = connection.getresponse()
-            return answer.status, answer.read(), answer.headers
-        finally:
-            connection.close()
 
     def put(self, key, body, **how):
         return self.ask("PUT", key, body, **how)[0]
