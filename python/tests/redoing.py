@@ -230,7 +230,8 @@ def logs_of_stores():
                 check((raised(RedoLog, folder, print), SaveError), (here.log.finish(new), "5 objects and 2 tenants"), (here.log.follow(new), False))
         with open(path, "ab") as file:
             # the second of each two is refused S12
-            file.write(b"fileas 0 %s 300000\n%sforget 0 %s\nforget 0 %s\n" % (addresses[0].encode(), b"0" * 300_000, *[addresses[0].encode()] * 2) * 6)
+            forget = b"forget 0 %s\n" % addresses[0].encode()
+            file.write((b"fileas 0 %s 300000\n%s" % (addresses[0].encode(), b"0" * 300_000) + forget + forget) * 6)
         with logged(folder) as here:
             check((here.follows(), ""), (os.stat(path).st_size < 700_000, True), (is_saved(folder, here.store), True))
 
@@ -355,7 +356,8 @@ def damaged_objects():
             log[at] ^= 1
         Path(f"{folder}/log").write_bytes(log)
         with logged(folder) as here:
-            wanted = [f"{folder}/log: line {number}, at byte {log.index(addresses[at].encode()) - 9}, is refused: S11: " for number, at in ((3, 1), (5, 3))]
+            offsets = [log.index(addresses[at].encode()) - len("fileas 0 ") for at in (1, 3)]
+            wanted = [f"{folder}/log: line {number}, at byte {offset}, is refused: S11: " for number, offset in zip((3, 5), offsets)]
             check(([*here.store.list(0)], addresses[::2]), ([line[: len(start)] for line, start in zip(here.told, wanted)], wanted))
             check(([line.endswith(": this object is damaged, and not restored") for line in here.told], [True] * 2))
 

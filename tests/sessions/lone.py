@@ -206,7 +206,8 @@ def own_uploads_that_are_kept(program):
         with server.session() as session:
             session.ask("stat")
         for number in numbers:
-            check((put_to(other, number).startswith((b"held 3 all", b"refused S9")), True), (other.ask(f"seal {number}").split()[0] in (b"new", b"known"), True))
+            check((put_to(other, number).startswith((b"held 3 all", b"refused S9")), True))
+            check((other.ask(f"seal {number}").split()[0] in (b"new", b"known"), True))
         check((audit_of(program, server), []), (server.end(), 0))
 
 

@@ -106,9 +106,9 @@ class Library:
             if kind not in ("text", "object"):
                 self.refuses(NO_VALUE, "read", handle, c_uint64(0), byref(room), c_size_t(16), byref(copied))
                 self.refuses(NO_VALUE, "len", handle, byref(number))
-            for name, right, row in ("object_rows", "list", ListedObject), ("upload_rows", "uploads", ListedUpload), ("tenant_rows", "tenants", Usage):
+            for name, right, row in ("object", "list", ListedObject), ("upload", "uploads", ListedUpload), ("tenant", "tenants", Usage):
                 if kind != right:
-                    self.refuses(NO_VALUE, name, handle, c_uint64(0), byref(marked(row * 2)), c_size_t(2), byref(copied))
+                    self.refuses(NO_VALUE, f"{name}_rows", handle, c_uint64(0), byref(marked(row * 2)), c_size_t(2), byref(copied))
             if kind != "part":
                 self.refuses(NO_VALUE, "put", store, c_uint64(0), handle, byref(marked(Progress)), byref(why), byref(number))
             if kind != "closed":
@@ -125,7 +125,8 @@ class Library:
         passed = [word._obj for word in words if hasattr(word, "_obj")]
         before = [bytes(value) for value in passed]
         answer = getattr(self.calls, f"b3store_{name}")(*words)
-        must((answer, [bytes(value) for value in passed]) == (wanted, before), f"b3store_{name} returns {answer}, and not {wanted}, and changes nothing")
+        is_kept = [bytes(value) for value in passed] == before
+        must(answer == wanted and is_kept, f"b3store_{name} returns {answer}, and not {wanted}, and changes nothing")
 
     def command(self, name, *given, out=()):
         """Makes a call on the store, with a `why`, and `work` if it counts. It is refused, or returns what it stored."""
@@ -142,7 +143,8 @@ class Library:
             at = handle.at
             if kind != "store":
                 answer, why, stored = self.answer(name, handle, given, out)
-                must(answer == NO_VALUE and all(map(is_marked, [why, *stored])) and handle.at == at, f"{name} refuses a handle that has no store: {kind}")
+                is_kept = all(map(is_marked, [why, *stored])) and handle.at == at
+                must(answer == NO_VALUE and is_kept, f"{name} refuses a handle that has no store: {kind}")
 
     def answer(self, name, store, given, out):
         """The number that a call returns, its `why`, and what it stored, which is nothing if it doesn't return 0."""

@@ -179,6 +179,7 @@ def processes_that_are_killed():
             time.sleep(SHORTLY)
             os.kill(store if kills_store else server.process.pid, signal.SIGKILL)
             check((server.status(), 3 if kills_store else -signal.SIGKILL), (wait_until(lambda store=store: not is_running(store)), True))
-            check((raised(client.stat), Ended), (raised(client.begin, tenant, 5), Ended), (client.alive, False), (len(plain.remaining()) < 10 << 24, True))
+            check((raised(client.stat), Ended), (raised(client.begin, tenant, 5), Ended), (client.alive, False))
+            check((len(plain.remaining()) < 10 << 24, True))
             told = "b3store.server: the store ended with status -9, killed by SIGKILL; everything in it is lost\n"
             check((server.reported(), told if kills_store else ""), (server.left() == [], kills_store))

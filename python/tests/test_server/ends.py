@@ -278,8 +278,9 @@ def notifications():
 
 def sockets_that_are_passed():
     """The server listens on what systemd passes, and leaves its file. What is no listening Unix-domain socket is an error."""
-    with tempfile.TemporaryDirectory() as folder, socket.socket(socket.AF_UNIX) as passed, socket.socket(socket.AF_UNIX) as silent, socket.socket() as tcp:
-        path = os.path.join(folder, "socket")
+    with contextlib.ExitStack() as ending:
+        passed, silent, tcp = (ending.enter_context(socket.socket(family)) for family in (socket.AF_UNIX, socket.AF_UNIX, socket.AF_INET))
+        path = os.path.join(ending.enter_context(tempfile.TemporaryDirectory()), "socket")
         passed.bind(path)
         for listening in passed, tcp:
             listening.listen()
