@@ -12,7 +12,6 @@
 Each script's answers are compared too. So that it is the store's memory that is measured, the bytes that are allocated and the memory that is
 resident must be at least what is held. The last line is `N passed, M failed`. A C compiler, `cc`, is needed.
 """
-import argparse
 import functools
 import os
 import re
@@ -26,6 +25,7 @@ HERE = os.path.dirname(os.path.abspath(__file__))
 sys.path[1:1] = [os.path.join(os.path.dirname(HERE), name) for name in ("common", "second_reading")]
 from blake3 import address_of
 from digests import RANDOM, random_bytes
+from judging import judged
 from python_needed import end_where_older
 from resident import ENTRY_BYTES, resident
 from script import pattern
@@ -134,26 +134,14 @@ def at_least(held, count):
     return count
 
 
-def more_for_long_parts(options, folder, step):
+def more_for_long_parts(program, folder, step):
     """How much more the last line of this one of the scripts asks for where parts are long, and how much that may be."""
     library = counting(folder)
-    counts = [asked_by_last(options.program, library, *list(scripts(part))[step], PARTS * part) for part in (PART, 1024)]
+    counts = [asked_by_last(program, library, *list(scripts(part))[step], PARTS * part) for part in (PART, 1024)]
     return counts[0] - counts[1], 1024
 
 
-def a_seal_shares_bytes(options, folder):
-    return more_for_long_parts(options, folder, 0)
-
-
-def a_seal_of_what_is_known_copies_no_bytes(options, folder):
-    return more_for_long_parts(options, folder, 1)
-
-
-def a_forget_copies_no_bytes(options, folder):
-    return more_for_long_parts(options, folder, 2)
-
-
-def a_fetch_asks_for_no_digits(options, folder):
+def a_fetch_asks_for_no_digits(program, folder):
     library = counting(folder)
     counts = []
     for part in (PART, 1024):
@@ -161,32 +149,32 @@ def a_fetch_asks_for_no_digits(options, folder):
         lines, answers = sealed(0, "new", part)
         lines = [f"tenant {length}", *lines, f"fetch 0 {address_of_pattern(length)}"]
         answers = ["tenant 0", *answers, f"object {length} {pattern(0, length).hex()}"]
-        counts.append(asked_by_last(options.program, library, lines, answers, length))
+        counts.append(asked_by_last(program, library, lines, answers, length))
     return counts[0] - counts[1], 1024
 
 
-def a_line_that_is_too_long_is_not_kept(options, folder):
+def a_line_that_is_too_long_is_not_kept(program, folder):
     """How much more a line of four times the longest asks for, and how much that may be."""
     library = counting(folder)
     counts = []
     for length in (4 * MAX_LINE, MAX_LINE + 1):
-        found, count = counted([options.program, "run"], library, b"put 0 0 x:" + bytes(length) + b"\ntenant 5\n")
+        found, count = counted([program, "run"], library, b"put 0 0 x:" + bytes(length) + b"\ntenant 5\n")
         if found != "bad\ntenant 0\n":
             raise ValueError(f"it answered {found[:200]!r}")
         counts.append(count)
     return counts[0] - counts[1], 0
 
 
-def an_upload_takes_its_input_once(options, folder):
+def an_upload_takes_its_input_once(program, folder):
     """How much an upload of many parts asks for, and how much that may be."""
     length = PARTS * PART
-    found, count = counted([options.program, "upload"], counting(folder), pattern(0, length))
+    found, count = counted([program, "upload"], counting(folder), pattern(0, length))
     if found != f"{address_of_pattern(length)}  -\naccepted {length} {PARTS}\n":
         raise ValueError(f"it answered {found[:200]!r}")
     return at_least(length, count), length * 3 // 2
 
 
-def threads_are_as_many_as_asked_for(options, folder):
+def threads_are_as_many_as_asked_for(program, folder):
     """How much one thread asks for that hashes a long file, and how much that may be. Many threads ask for a buffer each."""
     library, path, most = counting(folder), os.path.join(folder, "long"), 0
     with open(path, "wb") as file:
@@ -195,7 +183,7 @@ def threads_are_as_many_as_asked_for(options, folder):
     report = f"good {path}\ngood 1 bad 0 missing 0 unreadable 0 faults 0\n"
     for words, data, wanted in (["sum", path], "", line), (["check"], line, report):
         for threads in (1, MANY_THREADS):
-            found, count = counted([options.program, *words, "--threads", str(threads)], library, data.encode())
+            found, count = counted([program, *words, "--threads", str(threads)], library, data.encode())
             if found != wanted:
                 raise ValueError(f"it answered {found[:200]!r}")
             if threads > 1 and not threads * LEAST_BUFFER <= count <= MAX_BUFFERS:
@@ -204,83 +192,70 @@ def threads_are_as_many_as_asked_for(options, folder):
     return most, LEAST_BUFFER
 
 
-def growth_of_rounds(program, folder, lines_of, answers_of, left=NOTHING_LEFT):
+def growth_of_rounds(program, folder, last_lines, last_answers, left=NOTHING_LEFT):
     """How much more memory many rounds take than few, and how much that may be."""
     most = []
     for rounds in (FEW_ROUNDS, MANY_ROUNDS):
         lines, answers = [f"tenant {2 * PART}"], ["tenant 0"]
         for upload in range(rounds):
-            lines += lines_of(upload)
-            answers += answers_of(upload)
+            lines += [f"begin 0 {PART}", f"put {upload} 0 p:{PART}", *last_lines(upload)]
+            answers += [f"upload {upload}", f"held {PART} all", *last_answers(upload)]
         found, bytes_seen = answered(program, folder, lines + ["stat"])
         if found != answers + [left]:
             raise ValueError(f"it answered {found[-3:]!r}")
         most.append(bytes_seen)
-    return most[1] - most[0], (MANY_ROUNDS - FEW_ROUNDS) * (len(lines_of(0)) * ENTRY_BYTES)
+    return most[1] - most[0], (MANY_ROUNDS - FEW_ROUNDS) * (2 + len(last_lines(0))) * ENTRY_BYTES
 
 
-def what_is_forgotten_is_given_back(options, folder):
-    address = address_of_pattern(PART)
-    return growth_of_rounds(
-        options.program, folder,
-        lambda at: [f"begin 0 {PART}", f"put {at} 0 p:{PART}", f"seal {at}", f"forget 0 {address}"],
-        lambda at: [f"upload {at}", f"held {PART} all", f"new {address} {PART}", "ok"],
-    )
+ADDRESS = address_of_pattern(PART)
+FORGOTTEN = (lambda at: [f"seal {at}", f"forget 0 {ADDRESS}"], lambda at: [f"new {ADDRESS} {PART}", "ok"])
+KNOWN = (lambda at: [f"seal {at}"], lambda at: [f"{'known' if at else 'new'} {ADDRESS} {PART}"], f"objects 1 bytes {PART} uploads 0 held 0 parts 0")
+ABORTED = (lambda at: [f"abort {at}"], lambda at: ["ok"])
+"""How the rounds of an upload end, and the answers to that."""
 
 
-def what_is_known_is_given_back(options, folder):
-    address = address_of_pattern(PART)
-    return growth_of_rounds(
-        options.program, folder,
-        lambda at: [f"begin 0 {PART}", f"put {at} 0 p:{PART}", f"seal {at}"],
-        lambda at: [f"upload {at}", f"held {PART} all", f"{'known' if at else 'new'} {address} {PART}"],
-        f"objects 1 bytes {PART} uploads 0 held 0 parts 0",
-    )
-
-
-def what_is_aborted_is_given_back(options, folder):
-    return growth_of_rounds(
-        options.program, folder,
-        lambda at: [f"begin 0 {PART}", f"put {at} 0 p:{PART}", f"abort {at}"],
-        lambda at: [f"upload {at}", f"held {PART} all", "ok"],
-    )
-
-
-def what_is_held_is_measured(options, folder):
+def what_is_held_is_measured(program, folder):
     """How much less memory many held parts take than they have bytes, and how much less that may be."""
     most = []
     for count in (1, HELD_PARTS):
         length = count * PART
         lines = [f"tenant {length}", f"begin 0 {length}"] + [f"put 0 {at * PART} p:{PART}" for at in range(count)]
-        found, bytes_seen = answered(options.program, folder, lines)
+        found, bytes_seen = answered(program, folder, lines)
         if found[-1:] != [f"held {length} all"]:
             raise ValueError(f"it answered {found[-1:]!r}")
         most.append(bytes_seen)
     return (HELD_PARTS - 1) * PART - (most[1] - most[0]), TOLERANCE
 
 
+CASES = {
+    "a seal shares bytes": functools.partial(more_for_long_parts, step=0),
+    "a seal of what is known copies no bytes": functools.partial(more_for_long_parts, step=1),
+    "a forget copies no bytes": functools.partial(more_for_long_parts, step=2),
+    "a fetch asks for no digits": a_fetch_asks_for_no_digits,
+    "a line that is too long is not kept": a_line_that_is_too_long_is_not_kept,
+    "an upload takes its input once": an_upload_takes_its_input_once,
+    "threads are as many as asked for": threads_are_as_many_as_asked_for,
+    "what is held is measured": what_is_held_is_measured,
+    "what is forgotten is given back": lambda *words: growth_of_rounds(*words, *FORGOTTEN),
+    "what is known is given back": lambda *words: growth_of_rounds(*words, *KNOWN),
+    "what is aborted is given back": lambda *words: growth_of_rounds(*words, *ABORTED),
+}
+"""Each gives how many bytes more something takes, and at most how many that may be."""
+
+
+def judge(name, program):
+    with tempfile.TemporaryDirectory() as folder:
+        more, most = CASES[name](program, folder)
+    print(f"{name}: {more} bytes more, of at most {most}", flush=True)
+    return [f"{more} bytes more, and at most {most}"] if more > most else []
+
+
 def main():
     end_where_older()
-    parser = argparse.ArgumentParser(description=__doc__.split("\n\n")[0])
-    parser.add_argument("program", metavar="PROGRAM", type=os.path.abspath)
-    options, passed, failed = parser.parse_args(), 0, 0
-    tests = [
-        a_seal_shares_bytes, a_seal_of_what_is_known_copies_no_bytes, a_forget_copies_no_bytes, a_fetch_asks_for_no_digits,
-        a_line_that_is_too_long_is_not_kept, an_upload_takes_its_input_once, threads_are_as_many_as_asked_for,
-        what_is_held_is_measured, what_is_forgotten_is_given_back, what_is_known_is_given_back, what_is_aborted_is_given_back,
-    ]
-    for test in tests:
-        name = test.__name__.replace("_", " ")
-        try:
-            with tempfile.TemporaryDirectory() as folder:
-                more, most = test(options, folder)
-            reported = f"{more} bytes more, and at most {most}" if more > most else ""
-        except (OSError, ValueError, subprocess.SubprocessError) as fault:
-            reported = str(fault)
-        print(f"FAILED {name}: {reported}" if reported else f"{name}: {more} bytes more, of at most {most}")
-        passed, failed = passed + (not reported), failed + bool(reported)
-    print(f"{passed} passed, {failed} failed")
-    return 1 if failed else 0
+    if len(sys.argv) != 2:
+        sys.exit(__doc__)
+    program = os.path.abspath(sys.argv[1])
+    return judged((name, functools.partial(judge, name, program)) for name in CASES)
 
 
 if __name__ == "__main__":
