@@ -126,10 +126,10 @@ def processes_that_inherit():
 def closes_beside_a_fork():
     """What a process closes ends although a new process lives, which in turn waits for no thread of its parent."""
     with Running() as server:
-        for count in 1, 16:
+        for count, work in (1, Client.close), (16, Client.close), (16, lambda _: None):
             store = Client(server.path, sessions=count)
             free, taken = store._free, store._free.get()
-            with forked(lambda store=store: f"closed {store.close()}") as told:
+            with forked(lambda work=work, store=store: f"closed {work(store)}") as told:
                 free.put(taken)
                 closing = threading.Thread(target=store.close, daemon=True)
                 closing.start()

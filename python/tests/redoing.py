@@ -253,7 +253,7 @@ def faults_of_logs():
                 check((here.follows(), f"{told} can't be written: {os.strerror(number).lower()}; it is tried again"), (here.follows(), ""))
             if name == "fdatasync":
                 os.truncate(path, size)
-                os.truncate(path, size + 99)
+                os.truncate(path, size + 999)
             check((here.follows(), f"{told} is written again"), (is_saved(folder, here.store), True))
         for address in addresses[:7]:
             here.store.forget(0, address)

@@ -101,15 +101,15 @@ def pipes_that_nobody_takes():
     once."""
     with Running("--sessions", "1", "--wait", "60") as server:
         start = time.monotonic()
-        for text in (b"pipes\n", b"pip", b"", b"pipes\n" + b"begin 0 3\n" * 1000):
-            for _ in range(20):
-                with Connection(server.path) as client:
-                    client.send(text)
         with Connection(server.path) as client:
             for byte in b"pipes\n":
                 client.send(bytes([byte]))
                 time.sleep(0.01)
             check((client.line(), b"pipes\n"))
+        for text in (b"pipes\n", b"pip", b"", b"pipes\n" + b"begin 0 3\n" * 1000):
+            for _ in range(20):
+                with Connection(server.path) as client:
+                    client.send(text)
         with Connection(server.path) as client:
             check((client.ask("tenants"), b"tenants 0\n"), (client.ends(), b""))
         check((time.monotonic() - start < SECONDS_TO_WAIT, True), (wait_until(lambda: not server.sessions()), True), (server.end(), CLEAN))
