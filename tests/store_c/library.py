@@ -1,6 +1,7 @@
 """libb3store by ctypes, as a store that answers the lines of a session by calls: each method is that of the model, tests/second_reading/store.py,
 and returns the lines that the model does or is refused as it is. Every call is checked to write what include/b3store.h says and nothing else."""
 import ctypes
+import itertools
 from contextlib import contextmanager
 from ctypes import byref, c_bool, c_size_t, c_uint8, c_uint32, c_uint64
 
@@ -207,9 +208,9 @@ class Library:
                 return found
 
     def rows(self, name, handle, kind):
-        """The rows of a list, in pages of some size."""
-        found, size = [], self.chance.randrange(1, 5)
-        while True:
+        """The rows of a list, in pages of some size, after a page of none."""
+        found = []
+        for size in itertools.chain((0,), itertools.repeat(self.chance.randrange(1, 5))):
             page, copied = marked(kind * (size + 1)), c_size_t()
             must(getattr(self.calls, name)(byref(handle), c_uint64(len(found)), page, c_size_t(size), byref(copied)) == 0, f"{name} gives rows")
             must(copied.value <= size and is_marked(page, copied.value * ctypes.sizeof(kind)), f"{name} leaves the rows after a page")
