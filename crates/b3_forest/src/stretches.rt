@@ -144,6 +144,33 @@ impl StretchesBuilder {
         })
     }
 
+    /// Appends `bytes`. If a stretch can begin with them and they fit in it, their memory becomes the stretch; otherwise they are copied.
+    pub fn with_owned(self, alloc: Global, bytes: Vec<u8>) -> Result<StretchesBuilder, AllocError>
+        ensures { IfOk result (λ gathered. gathered ≡ record { each = self.each; bytes = self.bytes ++ bytes.items }) }
+    {
+        let is_begun = !self.last.is_empty() && self.last.len() < self.stretch_len;
+        if is_begun || bytes.len() > self.stretch_len {
+            return self.with(alloc, bytes.as_slice());
+        }
+        let StretchesBuilder {
+            stretch_len,
+            full,
+            last,
+        } = self;
+        let mut full = full;
+        if !last.is_empty() {
+            let Ok(stretch) = Arc::new(alloc, last) else {
+                return Err(AllocError);
+            };
+            full.push(stretch)?;
+        }
+        Ok(StretchesBuilder {
+            stretch_len,
+            full,
+            last: bytes,
+        })
+    }
+
     /// The finished stretches.
     pub fn finish(self, alloc: Global) -> Result<Stretches, AllocError>
         ensures { IfOk result (λ stretches. stretches ≡ self) }

@@ -1,6 +1,8 @@
 -- Blocks of a source, after those that a hasher was given.
-use Rattle.std.proofs.Common.{suc, zero, ◌≡◌, ℕ, ◌+◌, ◌*◌, ◌/◌, ◌^◌, ◌<◌, ◌≤◌, ◌++◌, List, [], ◌∷◌, Option, Some, None, IfSome, length, take, drop, set, arith, refl, ap, ap₂, sym, ◌∙◌, subst, length-append}
-use Rattle.std.proofs.lemmas.List.{append-nil, take-append-drop}
+use Rattle.std.proofs.Common.{suc, zero, ◌≡◌, ℕ, ◌+◌, ◌*◌, ◌/◌, ◌^◌, ◌<◌, ◌≤◌, ◌++◌, List, [], ◌∷◌, Option, Some, None, IfSome, length, take, drop, set, arith, refl, ap, ap₂, sym, ◌∙◌, subst, length-append, slice_index_or}
+use Rattle.std.specs.Prelude.{flat_map}
+use Rattle.std.proofs.lemmas.Grind.{flat_map-append}
+use Rattle.std.proofs.lemmas.List.{append-nil, take-append-drop, take_more}
 use Rattle.std.proofs.Math.Nat.{mul-le-mul_left}
 use Rattle.std.proofs.Math.Seq.{take-add, take-append_seam}
 use Rattle.std.specs.Global.{Vec}
@@ -33,6 +35,27 @@ front_all (Some all) None x y first gave end = absurd gave
 front_all (Some all) (Some rest) x y first gave end =
     let following : drop (length x) all ≡ y = gave ∙ ap (λ z. y ++ z) end ∙ append-nil y in
     ap₂ (λ a b. a ++ b) (sym first) (sym following) ∙ take-append-drop (length x) all
+
+-- bytes at the start, after which there are none
+pub front_whole : (known : Option (List ℕ)) (x : List ℕ) → StandsAt known 0 x → IsAtEnd (known_from known (length x)) → AreAll known x
+front_whole None x first end = tt
+front_whole (Some all) x first end =
+    sym (ap₂ (λ a b. a ++ b) first end ∙ append-nil x) ∙ take-append-drop (length x) all
+
+-- the bytes of the first i blocks, followed by those of the next one
+pub blocks_join : (blocks : List (Vec ℕ)) (i : ℕ) (d : Vec ℕ) → i < length blocks
+    → flat_map (λ b. b.items) (take (i + 1) blocks) ≡ flat_map (λ b. b.items) (take i blocks) ++ (slice_index_or blocks i d).items
+blocks_join blocks i d below =
+    ap (flat_map (λ b. b.items)) (take_more blocks i d below) ∙ flat_map-append (λ b. b.items) (take i blocks) (slice_index_or blocks i d ∷ [])
+    ∙ ap (λ x. flat_map (λ b. b.items) (take i blocks) ++ x) (append-nil (slice_index_or blocks i d).items)
+
+-- the first i blocks, and the next one
+pub blocks_more : (known : Option (List ℕ)) (blocks : List (Vec ℕ)) (i start : ℕ) (d : Vec ℕ) → i < length blocks
+    → length (flat_map (λ b. b.items) (take i blocks)) ≡ start → StandsAt known 0 (flat_map (λ b. b.items) (take i blocks))
+    → StandsAt known start (slice_index_or blocks i d).items → StandsAt known 0 (flat_map (λ b. b.items) (take (i + 1) blocks))
+blocks_more known blocks i start d below size first then =
+    let next : StandsAt known (length (flat_map (λ b. b.items) (take i blocks))) (slice_index_or blocks i d).items = subst (λ n. StandsAt known n (slice_index_or blocks i d).items) (sym size) then in
+    subst (StandsAt known 0) (sym (blocks_join blocks i d below)) (front_more known _ _ first next)
 
 -- blocks that end within 2^53 chunks
 pub room_within : (place end size : ℕ) → place < end → end * size ≤ 2 ^ 53 → (place + 1) * size ≤ 2 ^ 53

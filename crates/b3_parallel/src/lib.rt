@@ -24,6 +24,7 @@
 
 mod blocks;
 mod counted_hasher;
+mod gathering;
 mod line;
 mod parts;
 mod promised;
@@ -38,6 +39,7 @@ mod taking;
 mod threads;
 mod updating;
 
+pub use gathering::read_source;
 pub use reading::hash_all;
 pub use sizes::thread_count;
 pub use source::Source;

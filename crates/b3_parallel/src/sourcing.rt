@@ -18,9 +18,6 @@ use b3_core::{Mode, Runtime, Top, Work};
 use std::alloc::Global;
 use std::thread::Threads;
 
-// The minimum number of bytes for which threads are started.
-const LEAST: u64 = 1 << 24;
-
 // The level of the blocks that threads take: 2^9 chunks, 512 KiB.
 const LEVEL: u32 = 9;
 
@@ -49,7 +46,7 @@ pub fn hash_source<T: Threads + Runtime, S: Source + Send + Drop + 'static>(
         × (work.new ≡ counted work.old (hash_work (length input) - 1))) }
     ensures none { result ≡ None → work.new ≡ work.old }
 {
-    if len < LEAST || threads.number() < 2 {
+    if !threads.shares(len) {
         return None;
     }
     let all = Round::whole(mode, LEVEL, len);

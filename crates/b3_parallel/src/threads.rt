@@ -4,6 +4,9 @@ use crate::sizes::thread_count;
 use std::alloc::Global;
 use std::thread::Threads;
 
+// The minimum number of bytes of a source for which threads are started.
+const LEAST: u64 = 1 << 24;
+
 /// The threads and the memory of a hash by several threads.
 #[derive(Drop)]
 pub struct HashThreads<'a, T> {
@@ -19,5 +22,10 @@ impl<T: Threads> HashThreads<'_, T> {
     /// The number of threads that hash.
     pub(crate) fn number(&self) -> usize {
         thread_count(self.rt, self.count)
+    }
+
+    /// Whether several threads read a source of `len` bytes.
+    pub(crate) fn shares(&self, len: u64) -> bool {
+        LEAST <= len && 1 < self.number()
     }
 }
