@@ -24,31 +24,6 @@ use std::marker::Model;
 use std::rt::HostRuntime;
 use std::thread::Threads;
 
-// The bytes of a source, starting at an offset.
-#[derive(Drop)]
-struct SourceFrom<S> {
-    source: S,
-    start: u64,
-}
-
-impl<S: Source> Source for SourceFrom<S> {
-    ghost bytes = { λ f. known_from (S.bytes f.source) f.start };
-
-    fn again(&self) -> io::Result<SourceFrom<S>> {
-        Ok(SourceFrom {
-            source: self.source.again()?,
-            start: self.start,
-        })
-    }
-
-    fn read_at(&self, buf: &mut [u8], start: u64) -> io::Result<usize> {
-        match self.start.checked_add(start) {
-            Some(place) => self.source.read_at(buf, place),
-            None => Err(io::Error::from(ErrorKind::FileTooLarge)),
-        }
-    }
-}
-
 // Hashes files, one at a time.
 #[derive(Drop)]
 struct FileHasher<'a, T, F> {
@@ -190,9 +165,8 @@ impl<T: Threads + Runtime, F: FileSystem> FileHasher<'_, T, F> {
         ensures end { IfSome result (λ _. IsAtEnd (I.remaining input.new)) }
         ensures none { IfNone result (input.new ≡ input.old) }
     {
-        let (source, start) = input.as_file()?;
-        let len = source.regular_len()?.saturating_sub(start);
-        let root = self.source_root(&SourceFrom { source, start }, len)?;
+        let (source, len) = input.as_source()?;
+        let root = self.source_root(&source, len)?;
         input.take_all();
         Some(root)
     }

@@ -64,6 +64,6 @@ pub use file_system::{FileSystem, SourceFile};
 pub use files::{SystemFiles, SystemInputs, fault_of};
 pub use keys::read_key;
 pub use lists::{names_of, read_names};
-pub use sources::{FileFault, Reason, Sources, Standing};
+pub use sources::{FileFault, Reason, SourceFrom, Sources, Standing};
 pub use summing::{SumLine, SumLines, SumMode, SumRequest, sum, sum_files, write_root};
 pub use system::SystemFile;

@@ -11,7 +11,9 @@ ghost use Rattle.hash_engines.specs.declared.sources.Reason.{Reason as Cause};
 use crate::file_system::SourceFile;
 use b3_check::{Name, NumberedLine};
 use b3_core::Top;
-use std::io::Read;
+use b3_parallel::Source;
+use std::io;
+use std::io::{ErrorKind, Read};
 
 /// Why the bytes of a name are not available.
 #[derive(Clone, Copy, Debug, PartialEq, Eq)]
@@ -80,6 +82,31 @@ pub trait Sources {
         ensures { reports self.old name.now reason self.new };
 }
 
+/// The bytes of a source, starting at an offset.
+#[derive(Drop)]
+pub struct SourceFrom<S> {
+    pub source: S,
+    pub start: u64,
+}
+
+impl<S: Source> Source for SourceFrom<S> {
+    ghost bytes = { λ f. known_from (S.bytes f.source) f.start };
+
+    fn again(&self) -> io::Result<SourceFrom<S>> {
+        Ok(SourceFrom {
+            source: self.source.again()?,
+            start: self.start,
+        })
+    }
+
+    fn read_at(&self, buf: &mut [u8], start: u64) -> io::Result<usize> {
+        match self.start.checked_add(start) {
+            Some(place) => self.source.read_at(buf, place),
+            None => Err(io::Error::from(ErrorKind::FileTooLarge)),
+        }
+    }
+}
+
 /// An input that may be an open file, such as standard input redirected from a file.
 pub trait Standing<F: SourceFile>: Read {
     /// The file, opened for reading, and the current position of the input in it.
@@ -89,4 +116,15 @@ pub trait Standing<F: SourceFile>: Read {
     /// Consumes all bytes of the file from that position on: the input returns none of them any more.
     fn take_all(&mut self)
         ensures { IsAtEnd (Self.remaining self.new) };
+
+    /// The remaining bytes and their number, if the input is an open regular file.
+    fn as_source(&self) -> Option<(SourceFrom<F>, u64)>
+    where
+        F: Sized + Drop,
+        ensures { IfSome result (λ found. known_from (F.bytes found.0.source) found.0.start ≡ Self.remaining self.now) }
+    {
+        let (source, start) = self.as_file()?;
+        let len = source.regular_len()?.saturating_sub(start);
+        Some((SourceFrom { source, start }, len))
+    }
 }
