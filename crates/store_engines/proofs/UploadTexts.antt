@@ -58,10 +58,9 @@ reported_memory r kind old new wrote other is = go (is_memory kind) refl
     go false e = no_memory old new (other e is)
 
 -- of a refusal that is not out of memory a prefix was written
-pub reported_some : (o : UploadOptions) (r : Result Verdict Cause) (kind : UploadFaultKind) (old new known : Option (List ℕ)) → MayFail o kind → OnErr r (WroteSome old new (failed_text kind)) → (is_memory kind ≡ true → r ≡ Err OutOfMemory) → r ≡ Err CannotWrite
-    → IfSome known (λ input. WrotePrefix o input old new)
-reported_some o r kind old new None may wrote memory is = tt
-reported_some o r kind old new (Some input) may wrote memory is = go (is_memory kind) refl
+pub reported_some : (o : UploadOptions) (r : Result Verdict Cause) (kind : UploadFaultKind) (old new : Option (List ℕ)) (input : List ℕ) → MayFail o kind → OnErr r (WroteSome old new (failed_text kind)) → (is_memory kind ≡ true → r ≡ Err OutOfMemory) → r ≡ Err CannotWrite
+    → WrotePrefix o input old new
+reported_some o r kind old new input may wrote memory is = go (is_memory kind) refl
   where
     go : (b : Bool) → is_memory kind ≡ b → WrotePrefix o input old new
     go true e = let stopped = memory e in absurd (cc)

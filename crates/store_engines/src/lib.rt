@@ -25,4 +25,4 @@ pub use edge::{Cause, Verdict};
 pub use migrating::migrate;
 pub use refusing::JournalFault;
 pub use store_shared::UnnamedLedgers;
-pub use uploading::{UploadOptions, upload};
+pub use uploading::{UploadOptions, upload, upload_input};

@@ -14,11 +14,12 @@ ghost use Rattle.store_shared.specs.Made.{full_limits};
 
 use crate::auditing::accepted_line;
 use crate::journals::text_of;
-use crate::streams::read_stretches;
+use crate::streams::{input_stretches, read_stretches};
 use b3_check::Line;
 use b3_core::{CHUNK_LEN, Runtime};
-use b3_forest::{BorrowedBytes, MAX_PART_BYTES};
+use b3_forest::{BorrowedBytes, MAX_PART_BYTES, Stretches};
 use edge::{Cause, Verdict, write_all};
+use hash_engines::{SourceFile, Standing};
 use std::alloc::{AllocError, Global};
 use std::io::{Read, Write};
 use std::sync::Wait;
@@ -226,7 +227,64 @@ pub fn upload<L: Ledgers, T: Threads + Wait + Sync + Runtime, R: Read, W: Write>
         WrotePrefix options input (W.contents writer.old) (W.contents writer.new)) }
 {
     let input = read_stretches(alloc, reader, stretch_len(options.part_chunks))?;
-    let bytes = BorrowedBytes::Stretches(&input);
+    upload_stretches::<L, T, W>(rt, alloc, options, ledgers, &input, writer)
+}
+
+/// Uploads all that an input has left, as `upload` does. If it is an open regular file with at least 16 MiB left, several threads read it:
+/// as many as the machine has processors, and at most 16. If one of them cannot read, one thread reads everything.
+pub fn upload_input<
+    L: Ledgers,
+    T: Threads + Wait + Sync + Runtime,
+    F: SourceFile + Drop + Sync,
+    I: Standing<F>,
+    W: Write,
+>(
+    rt: &T,
+    alloc: Global,
+    options: UploadOptions,
+    ledgers: UnnamedLedgers,
+    input: &mut I,
+    writer: &mut W,
+) -> Result<Verdict, Cause>
+    requires bytes { (ledgers.bytes.name ≡ L.bytes_name) × (ledgers.bytes.parts ≡ L.bytes_parts) × (ledgers.bytes.parts ≡ all_parts) }
+    requires calls { (ledgers.calls.name ≡ L.calls_name) × (ledgers.calls.parts ≡ L.calls_parts) × (ledgers.calls.parts ≡ all_parts) }
+    requires history { ledgers.history ≡ L.history }
+    requires limits { L.limits ≡ full_limits }
+    ensures written { result ≡ Ok Verdict.Good → IfSome (I.remaining input.old) (λ bytes.
+        WroteUpload options bytes (W.contents writer.old) (W.contents writer.new)) }
+    ensures refused { result ≡ Ok Verdict.Refused → SomeRefusal options (W.contents writer.old) (W.contents writer.new) }
+    ensures bad_cut { IsBadCut options.part_chunks options.workers max_workers → result ≢ Ok Verdict.Good }
+    ensures end { OnOk result (IsAtEnd (I.remaining input.new)) }
+    ensures silent { result ≡ Err Cause.CannotRead → W.contents writer.new ≡ W.contents writer.old }
+    ensures memory { result ≡ Err Cause.OutOfMemory → WroteMemory (W.contents writer.old) (W.contents writer.new) }
+    ensures failed { result ≡ Err Cause.CannotWrite → IfSome (I.remaining input.old) (λ bytes.
+        WrotePrefix options bytes (W.contents writer.old) (W.contents writer.new)) }
+{
+    let bytes = input_stretches(rt, alloc, input, stretch_len(options.part_chunks))?;
+    upload_stretches::<L, T, W>(rt, alloc, options, ledgers, &bytes, writer)
+}
+
+// Uploads the bytes in stretches, as `upload` does.
+fn upload_stretches<L: Ledgers, T: Threads + Wait + Sync + Runtime, W: Write>(
+    rt: &T,
+    alloc: Global,
+    options: UploadOptions,
+    ledgers: UnnamedLedgers,
+    input: &Stretches,
+    writer: &mut W,
+) -> Result<Verdict, Cause>
+    requires bytes { (ledgers.bytes.name ≡ L.bytes_name) × (ledgers.bytes.parts ≡ L.bytes_parts) × (ledgers.bytes.parts ≡ all_parts) }
+    requires calls { (ledgers.calls.name ≡ L.calls_name) × (ledgers.calls.parts ≡ L.calls_parts) × (ledgers.calls.parts ≡ all_parts) }
+    requires history { ledgers.history ≡ L.history }
+    requires limits { L.limits ≡ full_limits }
+    ensures written { result ≡ Ok Verdict.Good → WroteUpload options input.now.bytes (W.contents writer.old) (W.contents writer.new) }
+    ensures refused { result ≡ Ok Verdict.Refused → SomeRefusal options (W.contents writer.old) (W.contents writer.new) }
+    ensures bad_cut { IsBadCut options.part_chunks options.workers max_workers → result ≢ Ok Verdict.Good }
+    ensures read { result ≢ Err Cause.CannotRead }
+    ensures memory { result ≡ Err Cause.OutOfMemory → WroteMemory (W.contents writer.old) (W.contents writer.new) }
+    ensures failed { result ≡ Err Cause.CannotWrite → WrotePrefix options input.now.bytes (W.contents writer.old) (W.contents writer.new) }
+{
+    let bytes = BorrowedBytes::Stretches(input);
     let (address, locked, share) = match filed::<L, T>(rt, alloc, options, ledgers, bytes) {
         Ok(filed) => filed,
         Err(kind) => return refuse(alloc, kind, writer),

@@ -1,9 +1,6 @@
 use Rattle.std.proofs.Common.{refl}
 use Rattle.store_engines.proofs.UploadTexts.{no_memory, reported, reported_memory, reported_some}
-use Rattle.store_engines.proofs.uploading.upload.Goals as goal
-
-pub returns-in_err-input-clause-memory : goal.returns-in_err-input-clause-memory
-returns-in_err-input-clause-memory g c = λ _. no_memory _ _ refl
+use Rattle.store_engines.proofs.uploading.upload_stretches.Goals as goal
 
 -- ---- an upload that failed
 
@@ -15,7 +12,7 @@ returns-in-Err-clause-memory g c = reported_memory c.refuse.result c.in-Err.kind
 
 pub returns-in-Err-clause-failed : goal.returns-in-Err-clause-failed
 returns-in-Err-clause-failed g c =
-    reported_some c.args.options c.refuse.result c.in-Err.kind _ _ (g.R.Read.remaining c.args.reader.now) c.in-Err.ensures.fault c.refuse.ensures.failed c.refuse.ensures.memory
+    reported_some c.args.options c.refuse.result c.in-Err.kind _ _ c.args.input.now.bytes c.in-Err.ensures.fault c.refuse.ensures.failed c.refuse.ensures.memory
 
 -- ---- one that was filed
 
