@@ -1,5 +1,7 @@
 -- Lines for a store that a handle keeps.
 use Rattle.std.specs.Prelude.{◌≡◌, ◌⊎◌, ℕ, List, [], Option, Some, Result, Ok, Err}
+use Rattle.std.specs.Io.KnownBytes.{Appends}
+use Rattle.edge.specs.Output.{WroteSome}
 use Rattle.edge.specs.declared.outcome.Cause.{Cause}
 use Rattle.edge.specs.declared.outcome.Cause.TheVariants as causes
 use Rattle.edge.specs.declared.outcome.Verdict.{Verdict}
@@ -9,15 +11,15 @@ use Rattle.store_handle.specs.declared.Kept.{Kept}
 use Rattle.store_handle.specs.declared.Kept.TheVariants as kept
 use Rattle.store_lines.specs.Access.{alone_stands}
 use Rattle.store_lines.specs.Owning.{alone}
-use Rattle.store_lines.specs.Turns.{Finishes, ServedAllOver, ServedCutOver, ServedSomeOver}
+use Rattle.store_lines.specs.Turns.{Finishes, ServedAllOver, ServedSomeOver}
 use Rattle.store_c.specs.Keeping.{OnStore, bytes_in}
 
 -- The text is the answers to the lines, and the store is as they leave it; or to a prefix of them, and then it may lack its end; or there was
 -- no memory before the first.
 abbrev pub IsServed : ModelStore → List ℕ → Result Verdict Cause → List ℕ → ModelStore → Type 0
 IsServed old lines (Ok verdict) text new = ServedAllOver alone (alone_stands old) (Finishes alone (alone_stands new)) lines (Some []) (Some text) verdict
-IsServed old lines (Err causes.CannotRead) text new = ServedSomeOver alone (alone_stands old) (Finishes alone (alone_stands new)) lines (Some []) (Some text)
-IsServed old lines (Err causes.CannotWrite) text new = ServedCutOver alone (alone_stands old) (Finishes alone (alone_stands new)) lines (Some []) (Some text)
+IsServed old lines (Err causes.CannotRead) text new = ServedSomeOver alone (alone_stands old) (Finishes alone (alone_stands new)) lines (Appends (Some []) (Some text))
+IsServed old lines (Err causes.CannotWrite) text new = ServedSomeOver alone (alone_stands old) (Finishes alone (alone_stands new)) lines (WroteSome (Some []) (Some text))
 IsServed old lines (Err causes.OutOfMemory) text new = (text ≡ []) × (new ≡ old)
 
 -- the number that the call returns

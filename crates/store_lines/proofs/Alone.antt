@@ -1,8 +1,6 @@
 -- A session over a store of its own.
-use Rattle.std.proofs.Common.{◌≡◌, ◌∙◌, ◌++◌, ◌+◌, ◌*◌, ◌∷◌, [], ℕ, Bool, true, false, List, Some, None, Option, Ok, Err, Result, inl, inr, length, refl, subst, sym, take}
-use Rattle.std.specs.Prelude.{IfOk, IfSome}
+use Rattle.std.proofs.Common.{◌≡◌, ◌∙◌, ◌++◌, ◌+◌, ◌*◌, ◌∷◌, [], ℕ, Bool, true, false, List, Some, None, Option, inl, inr, length, refl, subst, sym, take}
 use Rattle.std.specs.Io.BufRead.{drop_through, strip_last, take_through}
-use Rattle.edge.specs.declared.outcome.Verdict.{Verdict}
 use Rattle.store_core.specs.Model.{ModelStore}
 use Rattle.store_core.specs.Runs.{Call, Run, ask, change}
 use Rattle.store_core.specs.declared.store.questions.Question.TheVariants as questions
@@ -23,7 +21,7 @@ use Rattle.store_lines.specs.declared.owning.UploadsAtEnd.{UploadsAtEnd}
 use Rattle.store_lines.specs.declared.request.EntryRange.{EntryRange}
 use Rattle.store_core.specs.Carried.{IsCarried}
 use Rattle.store_core.specs.declared.command.Command.{Command}
-use Rattle.store_lines.specs.Turns.{AreLinkedSteps, AreLinkedTurns, Finishes, IsLinkedBytes, IsLinkedCall, IsLinkedChange, IsLinkedEntries, IsLinkedFile, IsLinkedPut, IsLinkedRequest, IsLinkedScriptLine, IsLinkedStep, ServedAllOver, ServedCutOver, ServedOver, ServedSomeOver, StepsAreRun}
+use Rattle.store_lines.specs.Turns.{AreLinkedSteps, AreLinkedTurns, Finishes, IsLinkedBytes, IsLinkedCall, IsLinkedChange, IsLinkedEntries, IsLinkedFile, IsLinkedPut, IsLinkedRequest, IsLinkedScriptLine, IsLinkedStep, StepsAreRun}
 
 -- ---- the steps are a run
 
@@ -135,33 +133,11 @@ runs uploads old new input (turn ∷ turns) rest h =
 pub are_run : StepsAreRun
 are_run = runs
 
--- ---- a session
+-- ---- a session on the empty store
 
--- the store at the end of a session is lawful
-abbrev IsLawful : SessionState → Type 0
-IsLawful last = IsCarried last.store
+pub from_empty : (store : ModelStore) → store ≡ widest_start → (start : SessionState) → alone_stands widest_start start → alone_stands store start
+from_empty store is start stands = stands ∙ sym is
 
-module _ (store new : ModelStore) (is : store ≡ widest_start) (lawful : IsCarried new) where
-  finished : (turns : List SessionTurn) (last : SessionState) → Finishes alone (alone_stands new) turns last → Finishes alone IsLawful turns last
-  finished turns last h = (h.0, (h.1.0, subst IsCarried (sym h.1.1) lawful))
-
-  answered : (input output rest : List ℕ) → ServedOver alone (alone_stands store) (Finishes alone (alone_stands new)) input output rest → ServedOver alone (alone_stands widest_start) (Finishes alone IsLawful) input output rest
-  answered input output rest h = record {
-    turns = h.turns;
-    plays = λ start stands. let p = h.plays start (stands ∙ sym is) in let last = p.1.1 in (p.0, (p.1.0, (last.0, (last.1.0, finished h.turns last.0 last.1.1))));
-    text_is = h.text_is;
-  }
-
-  pub all_served : {E : Type 0} (r : Result Verdict E) (old w1 w2 : Option (List ℕ)) → IfOk r (λ verdict. IfSome old (λ input. ServedAllOver alone (alone_stands store) (Finishes alone (alone_stands new)) input w1 w2 verdict))
-      → IfOk r (λ verdict. IfSome old (λ input. ServedAllOver alone (alone_stands widest_start) (Finishes alone IsLawful) input w1 w2 verdict))
-  all_served (Err e) old w1 w2 h = tt
-  all_served (Ok verdict) None w1 w2 h = tt
-  all_served (Ok verdict) (Some input) w1 w2 h = record { output = h.output; rest = h.rest; answered = answered input h.output h.rest h.answered; ends = h.ends; wrote = h.wrote }
-
-  pub some_served : (old w1 w2 : Option (List ℕ)) → IfSome old (λ input. ServedSomeOver alone (alone_stands store) (Finishes alone (alone_stands new)) input w1 w2) → IfSome old (λ input. ServedSomeOver alone (alone_stands widest_start) (Finishes alone IsLawful) input w1 w2)
-  some_served None w1 w2 h = tt
-  some_served (Some input) w1 w2 h = record { output = h.output; rest = h.rest; answered = answered input h.output h.rest h.answered; wrote = h.wrote }
-
-  pub cut_served : (old w1 w2 : Option (List ℕ)) → IfSome old (λ input. ServedCutOver alone (alone_stands store) (Finishes alone (alone_stands new)) input w1 w2) → IfSome old (λ input. ServedCutOver alone (alone_stands widest_start) (Finishes alone IsLawful) input w1 w2)
-  cut_served None w1 w2 h = tt
-  cut_served (Some input) w1 w2 h = record { output = h.output; rest = h.rest; answered = answered input h.output h.rest h.answered; wrote = h.wrote }
+-- the store at its end is lawful
+pub to_lawful : (new : ModelStore) → IsCarried new → (turns : List SessionTurn) (last : SessionState) → Finishes alone (alone_stands new) turns last → Finishes alone (λ last. IsCarried last.store) turns last
+to_lawful new lawful turns last h = (h.0, (h.1.0, subst IsCarried (sym h.1.1) lawful))

@@ -1,6 +1,7 @@
 -- Which uploads of a session's own are open after its turns.
 use Rattle.std.proofs.Common.{◌≡◌, ◌++◌, ◌∷◌, [], ℕ, List, Some, None, Option, Ok, Err, Result, length, refl, subst, sym, true}
 use Rattle.std.specs.Prelude.{IfOk, IfSome}
+use Rattle.std.specs.Io.KnownBytes.{Appends}
 use Rattle.std.proofs.lemmas.List.Sums.{fold-append}
 use Rattle.b3_forest.specs.Parts.{ModelPrepared, planned}
 use Rattle.store_books.specs.declared.refusal.Refusal.{Refusal}
@@ -16,7 +17,7 @@ use Rattle.store_lines.specs.Owning.{Session, begins, own_after, own_of, session
 use Rattle.store_lines.specs.Script.{IsTurnOfStep, Turn, bad, listed, skipped, took, unmade, unplanned}
 use Rattle.store_lines.specs.Session.{Manner, SessionTurn, as_script, filed, no_memory, reported_as, session_turn_text}
 use Rattle.store_lines.specs.Questions.{answer_text}
-use Rattle.store_lines.specs.Turns.{AreAborted, Finishes, IsLinkedBytes, IsLinkedCall, IsLinkedChange, IsLinkedEntries, IsLinkedMade, IsLinkedPart, IsLinkedPlan, IsLinkedStep, ServedAllOver, ServedCutOver, ServedOver, ServedSomeOver}
+use Rattle.store_lines.specs.Turns.{AreAborted, Finishes, IsLinkedBytes, IsLinkedCall, IsLinkedChange, IsLinkedEntries, IsLinkedMade, IsLinkedPart, IsLinkedPlan, IsLinkedStep, ServedAllOver, ServedSomeOver}
 use Rattle.store_lines.specs.inner.Reporting.{AbortsOver, Notes, Owns, ReportedOver}
 use Rattle.store_lines.specs.declared.owning.OwnUploads.{OwnUploads}
 use Rattle.store_lines.specs.declared.owning.UploadsAtEnd.{UploadsAtEnd}
@@ -140,38 +141,25 @@ aborts_more reach was mid is uploads upload reply a t = record {
 
 -- ---- the end of a session
 
-module _ (session : Session) (was mid is : SessionState → Type 0) (own : List ℕ) (input : List ℕ) (a : AbortsOver session.reach mid is own) where
-  finish : (output rest : List ℕ) → ServedOver session was (Owns session mid own) input output rest → ServedOver session was (Finishes session is) input output rest
-  finish output rest h = record {
+module _ (session : Session) (was was2 : SessionState → Type 0) (Then Then2 : List SessionTurn → SessionState → Type 0) (starts : (start : SessionState) → was2 start → was start) (then : (turns : List SessionTurn) (last : SessionState) → Then turns last → Then2 turns last) where
+  abbrev served : (input : List ℕ) (Wrote : List ℕ → Type 0) → ServedSomeOver session was Then input Wrote → ServedSomeOver session was2 Then2 input Wrote
+  served input Wrote h = record {
     turns = h.turns;
-    plays = λ start stood.
-        let p = h.plays start stood in
-        let last = p.1.1 in
-        let k = a.goes last.0 last.1.1.0 in
-        (p.0, (p.1.0, (last.0, (last.1.0, (k.0, (subst (λ (uploads : List ℕ). AreAborted session.reach last.0 uploads k.0) last.1.1.1 k.1.0, k.1.1))))));
-    text_is = h.text_is;
+    rest = h.rest;
+    plays = λ start stood. let p = h.plays start (starts start stood) in (p.0, (p.1.0, (p.1.1.0, (p.1.1.1.0, then h.turns p.1.1.0 p.1.1.1.1))));
+    wrote = h.wrote;
   }
 
-  finish_all : (w1 w2 : Option (List ℕ)) (verdict : Verdict) → ServedAllOver session was (Owns session mid own) input w1 w2 verdict → ServedAllOver session was (Finishes session is) input w1 w2 verdict
-  finish_all w1 w2 verdict h = record { output = h.output; rest = h.rest; answered = finish h.output h.rest h.answered; ends = h.ends; wrote = h.wrote }
+  pub served_some : (Wrote : List ℕ → Type 0) (old : Option (List ℕ)) → IfSome old (λ input. ServedSomeOver session was Then input Wrote) → IfSome old (λ input. ServedSomeOver session was2 Then2 input Wrote)
+  served_some Wrote None h = tt
+  served_some Wrote (Some input) h = served input Wrote h
 
-  finish_some : (w1 w2 : Option (List ℕ)) → ServedSomeOver session was (Owns session mid own) input w1 w2 → ServedSomeOver session was (Finishes session is) input w1 w2
-  finish_some w1 w2 h = record { output = h.output; rest = h.rest; answered = finish h.output h.rest h.answered; wrote = h.wrote }
+  pub served_all : {E : Type 0} (r : Result Verdict E) (old w1 w2 : Option (List ℕ)) → IfOk r (λ verdict. IfSome old (λ input. ServedAllOver session was Then input w1 w2 verdict))
+      → IfOk r (λ verdict. IfSome old (λ input. ServedAllOver session was2 Then2 input w1 w2 verdict))
+  served_all (Err e) old w1 w2 h = tt
+  served_all (Ok verdict) None w1 w2 h = tt
+  served_all (Ok verdict) (Some input) w1 w2 h = record { served = served input (Appends w1 w2) h.served; ends = h.ends }
 
-  finish_cut : (w1 w2 : Option (List ℕ)) → ServedCutOver session was (Owns session mid own) input w1 w2 → ServedCutOver session was (Finishes session is) input w1 w2
-  finish_cut w1 w2 h = record { output = h.output; rest = h.rest; answered = finish h.output h.rest h.answered; wrote = h.wrote }
-
-module _ (session : Session) (was mid is : SessionState → Type 0) (own : List ℕ) (w1 w2 : Option (List ℕ)) (a : AbortsOver session.reach mid is own) where
-  pub finished_all : {E : Type 0} (r : Result Verdict E) (old : Option (List ℕ)) → IfOk r (λ verdict. IfSome old (λ input. ServedAllOver session was (Owns session mid own) input w1 w2 verdict))
-      → IfOk r (λ verdict. IfSome old (λ input. ServedAllOver session was (Finishes session is) input w1 w2 verdict))
-  finished_all (Err e) old h = tt
-  finished_all (Ok verdict) None h = tt
-  finished_all (Ok verdict) (Some input) h = finish_all session was mid is own input a w1 w2 verdict h
-
-  pub finished_some : (old : Option (List ℕ)) → IfSome old (λ input. ServedSomeOver session was (Owns session mid own) input w1 w2) → IfSome old (λ input. ServedSomeOver session was (Finishes session is) input w1 w2)
-  finished_some None h = tt
-  finished_some (Some input) h = finish_some session was mid is own input a w1 w2 h
-
-  pub finished_cut : (old : Option (List ℕ)) → IfSome old (λ input. ServedCutOver session was (Owns session mid own) input w1 w2) → IfSome old (λ input. ServedCutOver session was (Finishes session is) input w1 w2)
-  finished_cut None h = tt
-  finished_cut (Some input) h = finish_cut session was mid is own input a w1 w2 h
+-- its own uploads were aborted
+pub finished : (session : Session) (mid is : SessionState → Type 0) (own : List ℕ) → AbortsOver session.reach mid is own → (turns : List SessionTurn) (last : SessionState) → Owns session mid own turns last → Finishes session is turns last
+finished session mid is own a turns last h = let k = a.goes last h.0 in (k.0, (subst (λ (uploads : List ℕ). AreAborted session.reach last uploads k.0) h.1 k.1.0, k.1.1))

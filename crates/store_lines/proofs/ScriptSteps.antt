@@ -17,7 +17,7 @@ use Rattle.edge.specs.Lines.{lines_of}
 use Rattle.edge.proofs.FirstLines.{lines_next, none_left, nothing_is}
 use Rattle.edge.specs.Output.{WroteSome}
 use Rattle.edge.proofs.Joining.{appends_more, appends_none}
-use Rattle.edge.proofs.Output.{some_after}
+use Rattle.edge.proofs.Output.{all_written, some_after}
 use Rattle.store_core.specs.Model.{ModelStore, start}
 use Rattle.store_core.specs.Runs.{Call, Run, Step, ask, change, put}
 use Rattle.store_lines.specs.Grammar.{command_at, fault_at}
@@ -29,7 +29,7 @@ use Rattle.store_lines.specs.inner.Answers.{AnswersRead}
 use Rattle.store_lines.specs.inner.Requests.{IsSessionLine}
 use Rattle.store_lines.specs.Access.{SessionState, alone_reach, alone_stands, at, newly}
 use Rattle.store_lines.specs.Turns.{IsLinkedCommand, IsLinkedLine, IsLinkedListing, IsLinkedMade, IsLinkedPart, IsLinkedPlan, IsLinkedPut, IsLinkedStep}
-use Rattle.store_lines.specs.Running.{AreAnswered, AreTurnsOf, IsScriptBegun, Ran, RanCut, RanOut, RanSome, failed_write, ran_all, ran_some, told_from, told_of}
+use Rattle.store_lines.specs.Running.{AreTurnsOf, HasMemory, Ran, RanOut, RanSome, after_answer, before_line, told_from, told_of}
 use Rattle.store_lines.specs.declared.bad_lines.LineFault.{LineFault}
 use Rattle.store_lines.proofs.Told.{told_more}
 use Rattle.store_lines.specs.Script.{IsTurnOfStep, Turn, bad, calls_of, ending_of, listed, replies_of, skipped, took, turn_ending, turn_text, unmade, unplanned, verdict_ending, widest_start, worse}
@@ -177,30 +177,29 @@ begun Told (Some input) was store is nothing = record {
   told = nothing;
 }
 
-are_answered : (Told : List (ℕ × LineFault) → Type 0) (front : List (List ℕ)) (turns : List Turn) (end : SessionState) (ending : Ending) → AreTurnsOf (newly widest_start) front turns end → ending ≡ ending_of turns → Told (told_from 1 front) → AreAnswered front Told (flat_map turn_text turns) ending
-are_answered Told front turns end ending plays is told =
-    let run = runs (newly widest_start) end front turns plays in
+-- what was answered so far
+some_ran : (Told : List (ℕ × LineFault) → Type 0) (number : ℕ) (now was is : Option (List ℕ)) (store : ModelStore) (ending : Ending) (input : List ℕ) (h : IsUnder Told number now was is store ending input) (Ends : List (List ℕ) → Ending → Type 0) (Wrote : List ℕ → Type 0) → Ends (lines_of h.rest) ending → Wrote (flat_map turn_text h.turns) → RanSome input Told Ends Wrote
+some_ran Told number now was is store ending input h Ends Wrote ends wrote =
+    let run = runs (newly widest_start) h.end h.front h.turns h.plays in
     record {
-      turns = turns;
-      end = end;
-      plays = plays;
+      front = h.front;
+      back = lines_of h.rest;
+      lines = h.lines;
+      turns = h.turns;
+      end = h.end;
+      plays = h.plays;
       run = run;
-      law = (runs_carry widest_start end.store (calls_of turns) (replies_of turns) (empty_carried max_tenants max_entries max_workers (omega arith) (omega arith)) run).0;
-      text_is = refl;
-      ending_is = is;
-      told = told;
+      law = (runs_carry widest_start h.end.store (calls_of h.turns) (replies_of h.turns) (empty_carried max_tenants max_entries max_workers (omega arith) (omega arith)) run).0;
+      told = h.told;
+      ends = subst (Ends (lines_of h.rest)) h.ending_is ends;
+      wrote = wrote;
     }
 
 pub at_end : (Told : List (ℕ × LineFault) → Type 0) (number : ℕ) (old now was is : Option (List ℕ)) (store : ModelStore) (ending : Ending) → IfSome old (IsUnder Told number now was is store ending) → IsAtEnd now → IfSome old (λ input. Ran input Told was is ending)
 at_end Told number None now was is store ending h e = tt
 at_end Told number (Some input) now was is store ending h e =
     let none : IsAtEnd (Some h.rest) = subst IsAtEnd h.left e in
-    let all : lines_of input ≡ h.front = h.lines ∙ ap (λ (rest : List ℕ). h.front ++ lines_of rest) none ∙ ap (λ ls. h.front ++ ls) none_left ∙ append-nil h.front in
-    record {
-      output = flat_map turn_text h.turns;
-      script = subst (λ (ls : List (List ℕ)). AreAnswered ls Told (flat_map turn_text h.turns) ending) (sym all) (are_answered Told h.front h.turns h.end ending h.plays h.ending_is h.told);
-      wrote = h.wrote;
-    }
+    some_ran Told number now was is store ending input h (λ back said. (back ≡ []) × (said ≡ ending)) (Appends was is) (ap lines_of none ∙ none_left, refl) h.wrote
 
 -- at the end the reader stays there
 pub ended_reader : (Told : List (ℕ × LineFault) → Type 0) (number : ℕ) (old now then was is : Option (List ℕ)) (store : ModelStore) (ending : Ending) → IfSome old (IsUnder Told number now was is store ending) → IsAtEnd now → DropsThrough now then 10 → IfSome old (λ _. IsAtEnd then)
@@ -218,11 +217,10 @@ is_verdict Told old was is endings.Good h = h
 is_verdict Told old was is endings.Refused h = h
 is_verdict Told old was is endings.OutOfMemory h = tt
 
-pub is_out : (Told : List (ℕ × LineFault) → Type 0) (old left was is : Option (List ℕ)) (ending : Ending) → IfSome old (λ _. IsAtEnd left) → IfSome old (λ input. Ran input Told was is ending) → ended_as ending ≡ Err causes.OutOfMemory → IfSome old (λ input. RanOut input Told left was is)
-is_out Told old left was is endings.Good end h e = absurd (cc)
-is_out Told old left was is endings.Refused end h e = absurd (cc)
-is_out Told None left was is endings.OutOfMemory end h e = tt
-is_out Told (Some input) left was is endings.OutOfMemory end h e = ran_all end h
+pub ended_memory : (ending : Ending) → ended_as ending ≡ Err causes.OutOfMemory → ending ≡ endings.OutOfMemory
+ended_memory endings.Good e = absurd (cc)
+ended_memory endings.Refused e = absurd (cc)
+ended_memory endings.OutOfMemory e = refl
 
 pub no_failed_read : (ending : Ending) → ended_as ending ≢ Err causes.CannotRead
 no_failed_read endings.Good = λ e. cc
@@ -234,38 +232,26 @@ if_ended endings.Good Holds h = h
 if_ended endings.Refused Holds h = h
 if_ended endings.OutOfMemory Holds h = tt
 
--- stopped after a prefix of its lines
-abbrev script_begun : (Told : List (ℕ × LineFault) → Type 0) (number : ℕ) (now was is : Option (List ℕ)) (store : ModelStore) (ending : Ending) (input : List ℕ) (h : IsUnder Told number now was is store ending input) → IsScriptBegun input Told (flat_map turn_text h.turns) ending
-script_begun Told number now was is store ending input h = record {
-  front = h.front;
-  back = lines_of h.rest;
-  lines = h.lines;
-  answered = are_answered Told h.front h.turns h.end ending h.plays h.ending_is h.told;
-}
-
 -- a failed read is reported only where no answer before reported out of memory
 pub has_memory : (ending : Ending) (cause : Cause) → (ending ≡ endings.OutOfMemory → cause ≡ causes.OutOfMemory) → cause ≡ causes.CannotRead → ending ≢ endings.OutOfMemory
 has_memory ending cause reported is = λ memory. let other = reported memory in absurd (cc)
 
-pub at_stop : (Told : List (ℕ × LineFault) → Type 0) (number : ℕ) (old now was is : Option (List ℕ)) (store : ModelStore) (ending : Ending) → ending ≢ endings.OutOfMemory → IfSome old (IsUnder Told number now was is store ending) → IfSome old (λ input. RanSome input Told was is)
+pub at_stop : (Told : List (ℕ × LineFault) → Type 0) (number : ℕ) (old now was is : Option (List ℕ)) (store : ModelStore) (ending : Ending) → ending ≢ endings.OutOfMemory → IfSome old (IsUnder Told number now was is store ending) → IfSome old (λ input. RanSome input Told HasMemory (Appends was is))
 at_stop Told number None now was is store ending memory h = tt
-at_stop Told number (Some input) now was is store ending memory h = record {
-  output = flat_map turn_text h.turns;
-  ending = ending;
-  script = script_begun _ _ now was is store ending input h;
-  has_memory = memory;
-  wrote = h.wrote;
-}
+at_stop Told number (Some input) now was is store ending memory h = some_ran Told number now was is store ending input h HasMemory (Appends was is) memory h.wrote
 
 some_left : (input : List ℕ) → 0 < length input → lines_of input ≢ []
 some_left input some = λ none. let nothing = ap length (nothing_is input none) in absurd (omega (arith, nothing, some))
 
 -- a line is left, or an answer reported out of memory
-pub at_refusal : (Told : List (ℕ × LineFault) → Type 0) (number : ℕ) (old now left was is : Option (List ℕ)) (store : ModelStore) (ending : Ending) → IfSome now (λ input. (0 < length input) ⊎ (ending ≡ endings.OutOfMemory)) → IfSome old (IsUnder Told number now was is store ending) → IfSome old (λ input. RanOut input Told left was is)
-at_refusal Told number None now left was is store ending some h = tt
-at_refusal Told number (Some input) now left was is store ending some h =
+pub at_refusal : (Told : List (ℕ × LineFault) → Type 0) (number : ℕ) (old now was is : Option (List ℕ)) (store : ModelStore) (ending : Ending) → IfSome now (λ input. (0 < length input) ⊎ (ending ≡ endings.OutOfMemory)) → IfSome old (IsUnder Told number now was is store ending) → IfSome old (λ input. RanOut input Told was is)
+at_refusal Told number None now was is store ending some h = tt
+at_refusal Told number (Some input) now was is store ending some h =
     let rest = subst (λ (o : Option (List ℕ)). IfSome o (λ input. (0 < length input) ⊎ (ending ≡ endings.OutOfMemory))) h.left some in
-    ran_some (flat_map turn_text h.turns) ending (script_begun _ _ now was is store ending input h) (elim rest [ inl some ↦ inl (some_left h.rest some) | inr memory ↦ inr memory ]) h.wrote
+    elim rest [
+      | inl some ↦ before_line (some_ran Told number now was is store ending input h (λ back ending. back ≢ []) (Appends was is) (some_left h.rest some) h.wrote)
+      | inr memory ↦ after_answer (some_ran Told number now was is store ending input h (λ back ending. ending ≡ endings.OutOfMemory) (WroteSome was is) memory (all_written was is (flat_map turn_text h.turns) h.wrote))
+    ]
 
 -- a line that was read is left
 pub line_left : (now : Option (List ℕ)) (ending : Ending) (got : LineRead) (kept : List ℕ) → 0 < got.count → IfSome now (λ xs. IsSessionLine (take_through 10 xs) got kept) → IfSome now (λ input. (0 < length input) ⊎ (ending ≡ endings.OutOfMemory))
@@ -370,34 +356,21 @@ turned Told Told2 number (Some input) now then was is after store next ending sa
 
 -- ---- a write that failed
 
--- the answer to a line was cut off
-cut_off : (Told Told2 : List (ℕ × LineFault) → Type 0) (number : ℕ) (old now then was is after : Option (List ℕ)) (store next : ModelStore) (ending said : Ending) (got : LineRead) (kept text : List ℕ) → IfSome old (IsUnder Told number now was is store ending) → IfSome now (λ xs. IsSessionLine (take_through 10 xs) got kept)
-    → DropsThrough now then 10 → 0 < got.count → AnswersRead store next got kept text said → WroteSome is after text → ((whole : List ℕ) → IsSessionLine whole got kept → (told : List (ℕ × LineFault)) → Told told → Told2 (told ++ told_of (number + 1) (fault_at (strip_last 10 whole)))) → IfSome old (λ input. (output : List ℕ) × IsScriptBegun input Told2 output (worse ending said) × WroteSome was after output)
+pub cut_off : (Told Told2 : List (ℕ × LineFault) → Type 0) (number : ℕ) (old now then was is after : Option (List ℕ)) (store next : ModelStore) (ending said : Ending) (got : LineRead) (kept text : List ℕ) (Ends : Ending → Type 0) → Ends (worse ending said) → IfSome old (IsUnder Told number now was is store ending) → IfSome now (λ xs. IsSessionLine (take_through 10 xs) got kept)
+    → DropsThrough now then 10 → 0 < got.count → AnswersRead store next got kept text said → WroteSome is after text → ((whole : List ℕ) → IsSessionLine whole got kept → (told : List (ℕ × LineFault)) → Told told → Told2 (told ++ told_of (number + 1) (fault_at (strip_last 10 whole)))) → IfSome old (λ input. RanSome input Told2 (λ back ending. Ends ending) (WroteSome was after))
 unfolding turned whatever_written
-cut_off Told Told2 number None now then was is after store next ending said got kept text h read rest some answered wrote say = tt
-cut_off Told Told2 number (Some input) now then was is after store next ending said got kept text h read rest some answered wrote say =
+cut_off Told Told2 number None now then was is after store next ending said got kept text Ends ends h read rest some answered wrote say = tt
+cut_off Told Told2 number (Some input) now then was is after store next ending said got kept text Ends ends h read rest some answered wrote say =
     let whole = take_through 10 h.rest in
     let read2 : IsSessionLine whole got kept = subst (λ (o : Option (List ℕ)). IfSome o (λ xs. IsSessionLine (take_through 10 xs) got kept)) h.left read in
     let answer = answered.answers whole read2 in
-    let under = turned Told Told2 number (Some input) now then None None None store next ending said got kept text (whatever_written Told number (Some input) now was is store ending h) read rest some answered tt say in (
-      flat_map turn_text (h.turns ++ answer.turn ∷ []),
-      script_begun _ _ then None None next (worse ending said) input under,
-      subst (λ (t : List ℕ). WroteSome was after t) (ap (λ t. flat_map turn_text h.turns ++ t) answer.text_is ∙ sym (text_more h.turns answer.turn)) (some_after was is after (flat_map turn_text h.turns) text h.wrote wrote),
-    )
+    let under = turned Told Told2 number (Some input) now then None None None store next ending said got kept text (whatever_written Told number (Some input) now was is store ending h) read rest some answered tt say in
+    let wrote2 = subst (λ (t : List ℕ). WroteSome was after t) (ap (λ t. flat_map turn_text h.turns ++ t) answer.text_is ∙ sym (text_more h.turns answer.turn)) (some_after was is after (flat_map turn_text h.turns) text h.wrote wrote) in
+    some_ran Told2 (number + 1) then None None next (worse ending said) input under (λ back ending. Ends ending) (WroteSome was after) ends wrote2
 
-pub at_cut : (Told Told2 : List (ℕ × LineFault) → Type 0) (number : ℕ) (old now then was is after : Option (List ℕ)) (store next : ModelStore) (ending said : Ending) (got : LineRead) (kept text : List ℕ) → worse ending said ≢ endings.OutOfMemory → IfSome old (IsUnder Told number now was is store ending)
-    → IfSome now (λ xs. IsSessionLine (take_through 10 xs) got kept) → DropsThrough now then 10 → 0 < got.count → AnswersRead store next got kept text said → WroteSome is after text → ((whole : List ℕ) → IsSessionLine whole got kept → (told : List (ℕ × LineFault)) → Told told → Told2 (told ++ told_of (number + 1) (fault_at (strip_last 10 whole)))) → IfSome old (λ input. RanCut input Told2 was after)
-at_cut Told Told2 number None now then was is after store next ending said got kept text memory h read rest some answered wrote say = tt
-at_cut Told Told2 number (Some input) now then was is after store next ending said got kept text memory h read rest some answered wrote say =
-    let cut = cut_off Told Told2 number (Some input) now then was is after store next ending said got kept text h read rest some answered wrote say in
-    record { output = cut.0; ending = worse ending said; script = cut.1; has_memory = memory; wrote = cut.2 }
-
-pub at_failed_write : (Told Told2 : List (ℕ × LineFault) → Type 0) (number : ℕ) (old now then left was is after : Option (List ℕ)) (store next : ModelStore) (ending said : Ending) (got : LineRead) (kept text : List ℕ) → worse ending said ≡ endings.OutOfMemory → IfSome old (IsUnder Told number now was is store ending)
-    → IfSome now (λ xs. IsSessionLine (take_through 10 xs) got kept) → DropsThrough now then 10 → 0 < got.count → AnswersRead store next got kept text said → WroteSome is after text → ((whole : List ℕ) → IsSessionLine whole got kept → (told : List (ℕ × LineFault)) → Told told → Told2 (told ++ told_of (number + 1) (fault_at (strip_last 10 whole)))) → IfSome old (λ input. RanOut input Told2 left was after)
-at_failed_write Told Told2 number None now then left was is after store next ending said got kept text memory h read rest some answered wrote say = tt
-at_failed_write Told Told2 number (Some input) now then left was is after store next ending said got kept text memory h read rest some answered wrote say =
-    let cut = cut_off Told Told2 number (Some input) now then was is after store next ending said got kept text h read rest some answered wrote say in
-    failed_write cut.0 (subst (λ (e : Ending). IsScriptBegun input Told2 cut.0 e) memory cut.1) cut.2
+pub after_refusal : (Told : List (ℕ × LineFault) → Type 0) (old was is : Option (List ℕ)) → IfSome old (λ input. RanSome input Told (λ back ending. ending ≡ endings.OutOfMemory) (WroteSome was is)) → IfSome old (λ input. RanOut input Told was is)
+after_refusal Told None was is h = tt
+after_refusal Told (Some input) was is h = after_answer h
 
 -- ---- the empty store
 

@@ -7,9 +7,7 @@ use Rattle.std.specs.Io.KnownBytes.{Appends, IsAtEnd}
 use Rattle.std.proofs.lemmas.Bool.{eqb-true}
 use Rattle.std.proofs.BufReadLemmas.{take_through-nil, take_through_nonempty}
 use Rattle.std.proofs.KnownBytes.{Appends-nil, Appends-trans}
-use Rattle.edge.specs.Output.{WroteSome}
 use Rattle.edge.specs.declared.outcome.Verdict.TheVariants as verdicts
-use Rattle.edge.proofs.Output.{some_after}
 use Rattle.std.proofs.lemmas.List.Concat.{flat_map-append}
 use Rattle.store_lines.specs.inner.Requests.{IsSessionLine}
 use Rattle.store_lines.specs.Requests.{request_in}
@@ -23,7 +21,7 @@ use Rattle.store_lines.specs.inner.Requests.{IsFound}
 use Rattle.store_lines.specs.Owning.{Session, own_after, own_of}
 use Rattle.store_lines.specs.inner.Reporting.{LeavesLineOver, LeavesOver, Owns, ServesOver, ServesReadOver}
 use Rattle.store_lines.proofs.Owned.{own_more}
-use Rattle.store_lines.specs.Turns.{AreLinkedTurns, IsLinkedFirstLine, ServedAllOver, ServedCutOver, ServedOver, ServedSomeOver}
+use Rattle.store_lines.specs.Turns.{AreLinkedTurns, IsLinkedFirstLine, ServedAllOver, ServedSomeOver}
 
 -- the lines before the rest were served: what they came to, the session's own uploads, and what was written
 pub record IsUnder (session : Session) (was is : SessionState → Type 0) (own : List ℕ) (now w1 w2 : Option (List ℕ)) (input : List ℕ) : Type 0 where
@@ -73,25 +71,20 @@ pub begun : (session : Session) (was : SessionState → Type 0) (own : List ℕ)
 begun session was own None w none = tt
 begun session was own (Some input) w none = record { rest = input; left = refl; turns = []; plays = λ start stood. (start, (stood, (refl, refl), none)); wrote = Appends-nil w }
 
-answered : (session : Session) (was is : SessionState → Type 0) (own : List ℕ) (now w1 w2 : Option (List ℕ)) (input : List ℕ) (h : IsUnder session was is own now w1 w2 input) → ServedOver session was (Owns session is own) input (flat_map session_turn_text h.turns) h.rest
-answered session was is own now w1 w2 input h = record {
+-- the lines before the rest were answered, and the next one left this
+abbrev pub answered : (session : Session) (was mid is : SessionState → Type 0) (own : List ℕ) (now w1 w2 : Option (List ℕ)) (input : List ℕ) (h : IsUnder session was mid own now w1 w2 input) (Wrote : List ℕ → Type 0) → LeftBy session.reach mid is h.rest → Wrote (flat_map session_turn_text h.turns) → ServedSomeOver session was (Owns session is own) input Wrote
+answered session was mid is own now w1 w2 input h Wrote l wrote = record {
   turns = h.turns;
-  plays = λ start stood. let p = h.plays start stood in (p.0, (p.1.1, (p.0, (inl (p.0.store, inl refl, refl), (p.1.0, p.1.2)))));
-  text_is = refl;
-}
-
-answered_cut : (session : Session) (was mid is : SessionState → Type 0) (own : List ℕ) (now w1 w2 : Option (List ℕ)) (input : List ℕ) (h : IsUnder session was mid own now w1 w2 input) → LeftBy session.reach mid is h.rest → ServedOver session was (Owns session is own) input (flat_map session_turn_text h.turns) h.rest
-answered_cut session was mid is own now w1 w2 input h l = record {
-  turns = h.turns;
+  rest = h.rest;
   plays = λ start stood. let p = h.plays start stood in let k = l.leaves p.0 p.1.0 in (p.0, (p.1.1, (k.0, (k.1.0, (k.1.1, p.1.2)))));
-  text_is = refl;
+  wrote = wrote;
 }
 
-pub stopped : (session : Session) (was mid is : SessionState → Type 0) (own : List ℕ) (old now w1 w2 : Option (List ℕ)) → IfSome old (IsUnder session was mid own now w1 w2) → IfSome now (λ rest. LeftBy session.reach mid is rest) → IfSome old (λ input. ServedSomeOver session was (Owns session is own) input w1 w2)
+pub stopped : (session : Session) (was mid is : SessionState → Type 0) (own : List ℕ) (old now w1 w2 : Option (List ℕ)) → IfSome old (IsUnder session was mid own now w1 w2) → IfSome now (λ rest. LeftBy session.reach mid is rest) → IfSome old (λ input. ServedSomeOver session was (Owns session is own) input (Appends w1 w2))
 stopped session was mid is own None now w1 w2 h l = tt
 stopped session was mid is own (Some input) now w1 w2 h l =
     let left : LeftBy session.reach mid is h.rest = subst (λ (o : Option (List ℕ)). IfSome o (λ rest. LeftBy session.reach mid is rest)) h.left l in
-    record { output = flat_map session_turn_text h.turns; rest = h.rest; answered = answered_cut session was mid is own now w1 w2 input h left; wrote = h.wrote }
+    answered session was mid is own now w1 w2 input h (Appends w1 w2) left h.wrote
 
 pub at_end : (session : Session) (was is : SessionState → Type 0) (own : List ℕ) (old now w1 w2 : Option (List ℕ)) (read : LineRead) (kept : List ℕ) → IfSome old (IsUnder session was is own now w1 w2) → IfSome now (λ left. IsSessionLine (take_through 10 left) read kept) → read.count ≡ 0
     → IfSome old (λ input. ServedAllOver session was (Owns session is own) input w1 w2 verdicts.Good)
@@ -99,7 +92,7 @@ at_end session was is own None now w1 w2 read kept h r none = tt
 at_end session was is own (Some input) now w1 w2 read kept h r none =
     let read2 : IsSessionLine (take_through 10 h.rest) read kept = subst (λ (o : Option (List ℕ)). IfSome o (λ left. IsSessionLine (take_through 10 left) read kept)) h.left r in
     let nothing : h.rest ≡ [] = take_through-nil 10 h.rest (omega (arith, read2.count_is, none)) in
-    record { output = flat_map session_turn_text h.turns; rest = h.rest; answered = answered session was is own now w1 w2 input h; ends = nothing; wrote = h.wrote }
+    record { served = answered session was is is own now w1 w2 input h (Appends w1 w2) (rests session.reach is (request_in (take_through 10 h.rest)) (drop_through 10 h.rest)) h.wrote; ends = nothing }
 
 -- a newline is the last byte of a longer line too
 onto : (b : ℕ) (line : List ℕ) → HasNewline line → HasNewline (b ∷ line)
@@ -134,11 +127,8 @@ unended session was is own None now w1 w2 read kept h r some needs lacks = tt
 unended session was is own (Some input) now w1 w2 read kept h r some needs lacks =
     let read2 : IsSessionLine (take_through 10 h.rest) read kept = subst (λ (o : Option (List ℕ)). IfSome o (λ left. IsSessionLine (take_through 10 left) read kept)) h.left r in
     record {
-      output = flat_map session_turn_text h.turns;
-      rest = h.rest;
-      answered = answered session was is own now w1 w2 input h;
+      served = answered session was is is own now w1 w2 input h (Appends w1 w2) (rests session.reach is (request_in (take_through 10 h.rest)) (drop_through 10 h.rest)) h.wrote;
       ends = inr (needs, take_through_nonempty 10 h.rest (omega (arith, read2.count_is, some)), read2.unended lacks);
-      wrote = h.wrote;
     }
 
 pub some_left : (rest : List ℕ) (read : LineRead) (kept : List ℕ) → IsSessionLine (take_through 10 rest) read kept → 0 < read.count → 0 < length rest
@@ -162,13 +152,8 @@ truncated session was mid is own Has (Some input) now then left w1 w2 w3 read ke
     let served1 = served_now session mid is Has now then left (Appends w2 w3) h.rest read kept is_whole h.left r drops served in
     let served2 : ServesOver session mid is Has false (request_in whole) whole following left (Appends w2 w3) = subst (λ (w : Bool). ServesOver session mid is Has w (request_in whole) whole following left (Appends w2 w3)) none served1 in
     let text : flat_map session_turn_text h.turns ++ [] ≡ flat_map session_turn_text h.turns = append-nil (flat_map session_turn_text h.turns) in
-    record {
-      output = flat_map session_turn_text h.turns;
-      rest = h.rest;
-      answered = answered_cut session was mid is own now w1 w2 input h served2.2;
-      ends = inl served2.0;
-      wrote = subst (λ (t : List ℕ). Appends w1 w3 t) text (Appends-trans w1 w2 w3 (flat_map session_turn_text h.turns) [] h.wrote served2.1);
-    }
+    let wrote = subst (λ (t : List ℕ). Appends w1 w3 t) text (Appends-trans w1 w2 w3 (flat_map session_turn_text h.turns) [] h.wrote served2.1) in
+    record { served = answered session was mid is own now w1 w2 input h (Appends w1 w3) served2.2 wrote; ends = inl served2.0 }
 
 pub at_cut : (session : Session) (was mid is : SessionState → Type 0) (own : List ℕ) (Has : SessionTurn → Type 0) (old now then left w1 w2 : Option (List ℕ)) (Wrote : List ℕ → Type 0) (read : LineRead) (kept : List ℕ) (is_whole : Bool) → is_whole ≡ false → IfSome old (IsUnder session was mid own now w1 w2)
     → IfSome now (λ left. IsSessionLine (take_through 10 left) read kept) → DropsThrough now then 10 → IfSome then (λ following. ServesReadOver session mid is Has is_whole read kept following left Wrote) → IfSome old (λ _. IsAtEnd left)
@@ -202,24 +187,20 @@ turned session was mid is own new (Some input) now then left w1 w2 w3 read kept 
       wrote = subst (λ (x : List ℕ). Appends w1 w3 x) (sym (text_more h.turns t.turn)) (Appends-trans w1 w2 w3 (flat_map session_turn_text h.turns) (session_turn_text t.turn) h.wrote t.wrote);
     }
 
--- a write failed in the answer to a line
-pub cut_off : (session : Session) (was mid is : SessionState → Type 0) (own new : List ℕ) (old now then left w1 w2 w3 : Option (List ℕ)) (read : LineRead) (kept : List ℕ) → (session.reach.needs_newline ≡ true → read.is_ended ≡ true) → IfSome old (IsUnder session was mid own now w1 w2)
-    → IfSome now (λ left. IsSessionLine (take_through 10 left) read kept) → 0 < read.count → DropsThrough now then 10 → IfSome then (λ following. ServesReadOver session mid is (Noted session own new) true read kept following left (WroteSome w2 w3)) → IfSome old (λ input. ServedCutOver session was (Owns session is new) input w1 w3)
-cut_off session was mid is own new None now then left w1 w2 w3 read kept ended h r some drops served = tt
-cut_off session was mid is own new (Some input) now then left w1 w2 w3 read kept ended h r some drops served =
+-- the answer to a line was written in part
+pub cut_off : (session : Session) (was mid is : SessionState → Type 0) (own new : List ℕ) (old now then left w1 w2 : Option (List ℕ)) (Wrote Wrote2 : List ℕ → Type 0) (read : LineRead) (kept : List ℕ) → (session.reach.needs_newline ≡ true → read.is_ended ≡ true) → ((done text : List ℕ) → Appends w1 w2 done → Wrote text → Wrote2 (done ++ text))
+    → IfSome old (IsUnder session was mid own now w1 w2) → IfSome now (λ left. IsSessionLine (take_through 10 left) read kept) → 0 < read.count → DropsThrough now then 10 → IfSome then (λ following. ServesReadOver session mid is (Noted session own new) true read kept following left Wrote) → IfSome old (λ input. ServedSomeOver session was (Owns session is new) input Wrote2)
+cut_off session was mid is own new None now then left w1 w2 Wrote Wrote2 read kept ended more h r some drops served = tt
+cut_off session was mid is own new (Some input) now then left w1 w2 Wrote Wrote2 read kept ended more h r some drops served =
     let read2 : IsSessionLine (take_through 10 h.rest) read kept = subst (λ (o : Option (List ℕ)). IfSome o (λ l. IsSessionLine (take_through 10 l) read kept)) h.left r in
-    let served1 = served_now session mid is (Noted session own new) now then left (WroteSome w2 w3) h.rest read kept true h.left r drops served in
+    let served1 = served_now session mid is (Noted session own new) now then left Wrote h.rest read kept true h.left r drops served in
     let t = served1.1.1 in
     record {
-      output = flat_map session_turn_text (h.turns ++ t.turn ∷ []);
+      turns = h.turns ++ t.turn ∷ [];
       rest = served1.0;
-      answered = record {
-        turns = h.turns ++ t.turn ∷ [];
-        plays = λ start stood.
-            let p = h.plays start stood in
-            let g = t.goes p.0 p.1.0 in
-            (g.0, (more_play session start p.0 g.0 input h.rest served1.0 h.turns t.turn p.1.1 (some_left h.rest read kept read2 some, (λ needs. read2.ended (ended needs)), g.1.1.0), (g.0, (inl (g.0.store, inl refl, refl), (g.1.0, noted session own new h.turns t.turn p.1.2 g.1.1.1)))));
-        text_is = refl;
-      };
-      wrote = subst (λ (x : List ℕ). WroteSome w1 w3 x) (sym (text_more h.turns t.turn)) (some_after w1 w2 w3 (flat_map session_turn_text h.turns) (session_turn_text t.turn) h.wrote t.wrote);
+      plays = λ start stood.
+          let p = h.plays start stood in
+          let g = t.goes p.0 p.1.0 in
+          (g.0, (more_play session start p.0 g.0 input h.rest served1.0 h.turns t.turn p.1.1 (some_left h.rest read kept read2 some, (λ needs. read2.ended (ended needs)), g.1.1.0), (g.0, (inl (g.0.store, inl refl, refl), (g.1.0, noted session own new h.turns t.turn p.1.2 g.1.1.1)))));
+      wrote = subst Wrote2 (sym (text_more h.turns t.turn)) (more (flat_map session_turn_text h.turns) (session_turn_text t.turn) h.wrote t.wrote);
     }

@@ -1,6 +1,6 @@
 -- A script: its lines in order, and what a run of it writes.
-use Rattle.std.specs.Prelude.{◌≡◌, ◌≢◌, ◌⊎◌, ◌+◌, ℕ, List, [], ◌∷◌, ◌++◌, None, Option, Some}
-use Rattle.std.specs.Io.KnownBytes.{Appends, IsAtEnd}
+use Rattle.std.specs.Prelude.{◌≡◌, ◌≢◌, ◌+◌, ℕ, List, [], ◌∷◌, ◌++◌, None, Option, Some}
+use Rattle.std.specs.Io.KnownBytes.{Appends}
 use Rattle.std.specs.List.{flat_map}
 use Rattle.edge.specs.Lines.{lines_of}
 use Rattle.edge.specs.Output.{WroteSome}
@@ -36,56 +36,32 @@ abbrev pub AreTold : {S : Type 0} → (S → ℕ → LineFault → S → Type 0)
 AreTold Tells old new [] = new ≡ old
 AreTold Tells old new (bad ∷ others) = (mid : _) × Tells old bad.0 bad.1 mid × AreTold Tells mid new others
 
--- Lines were answered in order, from the empty store: their turns, and the text of their answers. Those outside the grammar were told. The
--- steps among the turns are a run of the store, and the invariant of a store holds after it.
-pub record AreAnswered (lines : List (List ℕ)) (Told : List (ℕ × LineFault) → Type 0) (output : List ℕ) (ending : Ending) : Type 0 where
-  pub turns : List Turn
-  pub end : SessionState
-  pub plays : AreTurnsOf (newly widest_start) lines turns end
-  pub run : Run widest_start (calls_of turns) (replies_of turns) end.store
-  pub law : IsCarried end.store
-  pub text_is : output ≡ flat_map turn_text turns
-  pub ending_is : ending ≡ ending_of turns
-  pub told : Told (told_from 1 lines)
-
--- a script and its output: all its lines are answered
-abbrev pub IsScriptRun : List ℕ → (List (ℕ × LineFault) → Type 0) → List ℕ → Ending → Type 0
-IsScriptRun input Told output ending = AreAnswered (lines_of input) Told output ending
-
--- the writer grew by the script's output
-pub record Ran (input : List ℕ) (Told : List (ℕ × LineFault) → Type 0) (old new : Option (List ℕ)) (ending : Ending) : Type 0 where
-  pub output : List ℕ
-  pub script : IsScriptRun input Told output ending
-  pub wrote : Appends old new output
-
--- a script and the output of a prefix of its lines, which were answered
-pub record IsScriptBegun (input : List ℕ) (Told : List (ℕ × LineFault) → Type 0) (output : List ℕ) (ending : Ending) : Type 0 where
+-- The lines of a prefix of a script were answered in order, from the empty store, and those outside the grammar were told. The steps among
+-- their turns are a run of the store, whose invariant holds after it. The other lines and the ending are like this, and this much of the
+-- answers was written.
+pub record RanSome (input : List ℕ) (Told : List (ℕ × LineFault) → Type 0) (Ends : List (List ℕ) → Ending → Type 0) (Wrote : List ℕ → Type 0) : Type 0 where
   pub front : List (List ℕ)
   pub back : List (List ℕ)
   pub lines : lines_of input ≡ front ++ back
-  pub answered : AreAnswered front Told output ending
+  pub turns : List Turn
+  pub end : SessionState
+  pub plays : AreTurnsOf (newly widest_start) front turns end
+  pub run : Run widest_start (calls_of turns) (replies_of turns) end.store
+  pub law : IsCarried end.store
+  pub told : Told (told_from 1 front)
+  pub ends : Ends back (ending_of turns)
+  pub wrote : Wrote (flat_map turn_text turns)
 
--- the writer grew by the answers to a prefix of the script's lines, none of which is `refused S14`
-pub record RanSome (input : List ℕ) (Told : List (ℕ × LineFault) → Type 0) (old new : Option (List ℕ)) : Type 0 where
-  pub output : List ℕ
-  pub ending : Ending
-  pub script : IsScriptBegun input Told output ending
-  pub has_memory : ending ≢ endings.OutOfMemory
-  pub wrote : Appends old new output
+-- the writer grew by the script's output: all its lines are answered
+abbrev pub Ran : List ℕ → (List (ℕ × LineFault) → Type 0) → Option (List ℕ) → Option (List ℕ) → Ending → Type 0
+Ran input Told old new ending = RanSome input Told (λ back said. (back ≡ []) × (said ≡ ending)) (Appends old new)
 
--- A write failed: the writer grew by a prefix of the answers to a prefix of the lines, the last of which was being written. None of them
--- is `refused S14`.
-pub record RanCut (input : List ℕ) (Told : List (ℕ × LineFault) → Type 0) (old new : Option (List ℕ)) : Type 0 where
-  pub output : List ℕ
-  pub ending : Ending
-  pub script : IsScriptBegun input Told output ending
-  pub has_memory : ending ≢ endings.OutOfMemory
-  pub wrote : WroteSome old new output
+-- no answer is `refused S14`
+abbrev pub HasMemory : List (List ℕ) → Ending → Type 0
+HasMemory back ending = ending ≢ endings.OutOfMemory
 
--- The result of a run that ends out of memory. The writer grew by the script's output, with an answer `refused S14`, and the reader is at
--- its end; or it grew by the answers to a prefix of the lines, and a line is left after these, or they have a `refused S14`. Or a write
--- failed, the answers to a prefix of the lines have a `refused S14`, and the writer grew by a prefix of these answers.
-pub data RanOut (input : List ℕ) (Told : List (ℕ × LineFault) → Type 0) (left old new : Option (List ℕ)) : Type 0 where
-  ran_all : IsAtEnd left → Ran input Told old new endings.OutOfMemory → RanOut input Told left old new
-  ran_some : (output : List ℕ) (ending : Ending) (script : IsScriptBegun input Told output ending) → (script.back ≢ []) ⊎ (ending ≡ endings.OutOfMemory) → Appends old new output → RanOut input Told left old new
-  failed_write : (output : List ℕ) → IsScriptBegun input Told output endings.OutOfMemory → WroteSome old new output → RanOut input Told left old new
+-- The result of a run that ends out of memory: an allocation failed for the next line; or some answer is `refused S14`, and then a write may
+-- have failed.
+pub data RanOut (input : List ℕ) (Told : List (ℕ × LineFault) → Type 0) (old new : Option (List ℕ)) : Type 0 where
+  before_line : RanSome input Told (λ back ending. back ≢ []) (Appends old new) → RanOut input Told old new
+  after_answer : RanSome input Told (λ back ending. ending ≡ endings.OutOfMemory) (WroteSome old new) → RanOut input Told old new

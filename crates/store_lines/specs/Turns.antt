@@ -18,7 +18,6 @@ use Rattle.store_lines.specs.Filing.{FileTurn, IsAborted, IsFiled, IsPartlyPut, 
 use Rattle.store_lines.specs.Lines.{IsPutLine}
 use Rattle.store_lines.specs.Script.{IsTurnOfStep, Turn, bad, listed, range_entries, skipped, took, unmade, unplanned}
 use Rattle.edge.specs.Lines.{HasNewline}
-use Rattle.edge.specs.Output.{WroteSome}
 use Rattle.store_lines.specs.Lines.{max_request}
 use Rattle.store_lines.specs.Requests.{request_in}
 use Rattle.store_lines.specs.Session.{IsShort, Manner, SessionTurn, as_range, as_script, filed, no_memory, session_calls, session_replies, session_turn_text, reported_as}
@@ -192,37 +191,21 @@ abbrev pub Finishes : Session → (SessionState → Type 0) → List SessionTurn
 Finishes session is turns last = (done : SessionState) × (AreAborted session.reach last (own_of session.at_end turns) done × is done)
 
 -- Lines of a prefix of the input were answered in order, whatever was left before the session. The account is the session's own in the end,
--- with what the next line left that isn't answered. Then this follows.
-pub record ServedOver (session : Session) (was : SessionState → Type 0) (Then : List SessionTurn → SessionState → Type 0) (input output rest : List ℕ) : Type 0 where
+-- with what the next line left that isn't answered. Then this follows, and this much of the answers was written.
+pub record ServedSomeOver (session : Session) (was : SessionState → Type 0) (Then : List SessionTurn → SessionState → Type 0) (input : List ℕ) (Wrote : List ℕ → Type 0) : Type 0 where
   pub turns : List SessionTurn
+  pub rest : List ℕ
   pub plays : (start : SessionState) → was start → (end : SessionState) × (AreLinkedTurns session start input turns end rest × ((last : SessionState) × (IsLeft session.reach end (request_in (take_through 10 rest)) (drop_through 10 rest) last × Then turns last)))
-  pub text_is : output ≡ flat_map session_turn_text turns
+  pub wrote : Wrote (flat_map session_turn_text turns)
 
--- the writer grew by the answers to the lines of a prefix of the input
-pub record ServedSomeOver (session : Session) (was : SessionState → Type 0) (Then : List SessionTurn → SessionState → Type 0) (input : List ℕ) (old new : Option (List ℕ)) : Type 0 where
-  pub output : List ℕ
-  pub rest : List ℕ
-  pub answered : ServedOver session was Then input output rest
-  pub wrote : Appends old new output
-
--- and the session reached its end
+-- the writer grew by the answers, and the session reached its end
 pub record ServedAllOver (session : Session) (was : SessionState → Type 0) (Then : List SessionTurn → SessionState → Type 0) (input : List ℕ) (old new : Option (List ℕ)) (verdict : Verdict) : Type 0 where
-  pub output : List ℕ
-  pub rest : List ℕ
-  pub answered : ServedOver session was Then input output rest
-  pub ends : EndsOver session.reach verdict rest
-  pub wrote : Appends old new output
-
--- A write failed: the writer grew by a prefix of the answers to the lines of a prefix of the input, the last of which was being written.
-pub record ServedCutOver (session : Session) (was : SessionState → Type 0) (Then : List SessionTurn → SessionState → Type 0) (input : List ℕ) (old new : Option (List ℕ)) : Type 0 where
-  pub output : List ℕ
-  pub rest : List ℕ
-  pub answered : ServedOver session was Then input output rest
-  pub wrote : WroteSome old new output
+  pub served : ServedSomeOver session was Then input (Appends old new)
+  pub ends : EndsOver session.reach verdict served.rest
 
 -- lines of a prefix of the input were answered in order, and the next one left this
 abbrev pub StoppedOver : Session → (SessionState → Type 0) → (SessionState → Type 0) → List ℕ → Type 0
-StoppedOver session was is input = (output : List ℕ) × (rest : List ℕ) × ServedOver session was (λ turns last. is last) input output rest
+StoppedOver session was is input = ServedSomeOver session was (λ turns last. is last) input (λ output. Unit {0})
 
 -- ---- laws
 

@@ -6,7 +6,7 @@ ghost use Rattle.std.specs.Io.KnownBytes.{Appends, IsAtEnd};
 ghost use Rattle.edge.specs.Output.{WroteSome};
 ghost use Rattle.store_lines.specs.inner.Answers.{reported_ending, reported_text};
 ghost use Rattle.store_lines.specs.inner.Requests.{IsSessionLine};
-ghost use Rattle.store_lines.specs.Running.{AreTold, Ran, RanCut, RanOut, RanSome};
+ghost use Rattle.store_lines.specs.Running.{AreTold, HasMemory, Ran, RanOut, RanSome};
 ghost use Rattle.store_lines.specs.Script.{verdict_ending, widest_start, worse};
 ghost use Rattle.store_lines.specs.inner.Script.{ended_as, first_cause};
 ghost use Rattle.store_lines.specs.declared.ending.Ending.TheVariants as endings;
@@ -38,12 +38,12 @@ pub fn run<R: BufRead, W: Write, F: BadLines>(
     ensures written { IfOk result (λ verdict. IfSome (R.Read.remaining reader.old) (λ input. Ran input (AreTold F.tells faults.old faults.new) (W.contents writer.old) (W.contents writer.new) (verdict_ending verdict))) }
     ensures end { OnOk result (IfSome (R.Read.remaining reader.old) (λ _. IsAtEnd (R.Read.remaining reader.new))) }
     // After a failed read it grew by the answers to a prefix of the lines, none of which is `refused S14`.
-    ensures read { result ≡ Err Cause.CannotRead → IfSome (R.Read.remaining reader.old) (λ input. RanSome input (AreTold F.tells faults.old faults.new) (W.contents writer.old) (W.contents writer.new)) }
+    ensures read { result ≡ Err Cause.CannotRead → IfSome (R.Read.remaining reader.old) (λ input. RanSome input (AreTold F.tells faults.old faults.new) HasMemory (Appends (W.contents writer.old) (W.contents writer.new))) }
     // After a failed write it grew by a prefix of such answers, the last of which was being written.
-    ensures failed { result ≡ Err Cause.CannotWrite → IfSome (R.Read.remaining reader.old) (λ input. RanCut input (AreTold F.tells faults.old faults.new) (W.contents writer.old) (W.contents writer.new)) }
+    ensures failed { result ≡ Err Cause.CannotWrite → IfSome (R.Read.remaining reader.old) (λ input. RanSome input (AreTold F.tells faults.old faults.new) HasMemory (WroteSome (W.contents writer.old) (W.contents writer.new))) }
     // If out of memory, it grew by the script's output, with a `refused S14` in it, or by the answers to a prefix of the lines; or, if a
     // write failed after a `refused S14`, by a prefix of these answers.
-    ensures memory { result ≡ Err Cause.OutOfMemory → IfSome (R.Read.remaining reader.old) (λ input. RanOut input (AreTold F.tells faults.old faults.new) (R.Read.remaining reader.new) (W.contents writer.old) (W.contents writer.new)) }
+    ensures memory { result ≡ Err Cause.OutOfMemory → IfSome (R.Read.remaining reader.old) (λ input. RanOut input (AreTold F.tells faults.old faults.new) (W.contents writer.old) (W.contents writer.new)) }
 {
     let mut store = Store::new(alloc, Limits::full());
     answer_lines(alloc, &mut store, reader, writer, faults, work)
@@ -61,9 +61,9 @@ fn answer_lines<R: BufRead, W: Write, F: BadLines>(
     requires { store.old ≡ widest_start }
     ensures written { IfOk result (λ verdict. IfSome (R.Read.remaining reader.old) (λ input. Ran input (AreTold F.tells faults.old faults.new) (W.contents writer.old) (W.contents writer.new) (verdict_ending verdict))) }
     ensures end { OnOk result (IfSome (R.Read.remaining reader.old) (λ _. IsAtEnd (R.Read.remaining reader.new))) }
-    ensures read { result ≡ Err Cause.CannotRead → IfSome (R.Read.remaining reader.old) (λ input. RanSome input (AreTold F.tells faults.old faults.new) (W.contents writer.old) (W.contents writer.new)) }
-    ensures failed { result ≡ Err Cause.CannotWrite → IfSome (R.Read.remaining reader.old) (λ input. RanCut input (AreTold F.tells faults.old faults.new) (W.contents writer.old) (W.contents writer.new)) }
-    ensures memory { result ≡ Err Cause.OutOfMemory → IfSome (R.Read.remaining reader.old) (λ input. RanOut input (AreTold F.tells faults.old faults.new) (R.Read.remaining reader.new) (W.contents writer.old) (W.contents writer.new)) }
+    ensures read { result ≡ Err Cause.CannotRead → IfSome (R.Read.remaining reader.old) (λ input. RanSome input (AreTold F.tells faults.old faults.new) HasMemory (Appends (W.contents writer.old) (W.contents writer.new))) }
+    ensures failed { result ≡ Err Cause.CannotWrite → IfSome (R.Read.remaining reader.old) (λ input. RanSome input (AreTold F.tells faults.old faults.new) HasMemory (WroteSome (W.contents writer.old) (W.contents writer.new))) }
+    ensures memory { result ≡ Err Cause.OutOfMemory → IfSome (R.Read.remaining reader.old) (λ input. RanOut input (AreTold F.tells faults.old faults.new) (W.contents writer.old) (W.contents writer.new)) }
 {
     let mut ending = Ending::Good;
     let mut line: Vec<u8> = Vec::new(alloc);

@@ -10,7 +10,7 @@ ghost use Rattle.store_core.specs.Carried.{IsCarried};
 ghost use Rattle.store_lines.specs.Access.{alone_stands};
 ghost use Rattle.store_lines.specs.Owning.{alone, session_of};
 ghost use Rattle.store_lines.specs.Script.{widest_start};
-ghost use Rattle.store_lines.specs.Turns.{Finishes, ServedAllOver, ServedCutOver, ServedSomeOver};
+ghost use Rattle.store_lines.specs.Turns.{Finishes, ServedAllOver, ServedSomeOver};
 ghost use Rattle.store_lines.specs.inner.Reporting.{LeavesLineOver, LeavesOver, Notes, Owns, ServesLineOver, ServesRequestOver};
 
 use crate::access::Access;
@@ -47,10 +47,10 @@ pub fn serve<R: BufRead, W: Write>(
     ensures end { OnOk result (IfSome (R.Read.remaining reader.old) (λ _. IsAtEnd (R.Read.remaining reader.new))) }
     // After a failed read it grew by the answers to a prefix of the lines.
     ensures read { result ≡ Err Cause.CannotRead → IfSome (R.Read.remaining reader.old) (λ input. ServedSomeOver alone (alone_stands widest_start)
-        (Finishes alone (λ last. IsCarried last.store)) input (W.contents writer.old) (W.contents writer.new)) }
+        (Finishes alone (λ last. IsCarried last.store)) input (Appends (W.contents writer.old) (W.contents writer.new))) }
     // After a failed write it grew by a prefix of such answers, the last of which was being written.
-    ensures failed { result ≡ Err Cause.CannotWrite → IfSome (R.Read.remaining reader.old) (λ input. ServedCutOver alone (alone_stands widest_start)
-        (Finishes alone (λ last. IsCarried last.store)) input (W.contents writer.old) (W.contents writer.new)) }
+    ensures failed { result ≡ Err Cause.CannotWrite → IfSome (R.Read.remaining reader.old) (λ input. ServedSomeOver alone (alone_stands widest_start)
+        (Finishes alone (λ last. IsCarried last.store)) input (WroteSome (W.contents writer.old) (W.contents writer.new))) }
     // Running out of memory stops no session that has begun.
     ensures memory { result ≡ Err Cause.OutOfMemory → (reader.new ≡ reader.old) × (writer.new ≡ writer.old) }
 {
@@ -84,10 +84,10 @@ pub fn serve_over<A: Access, R: BufRead, W: Write>(
     ensures end { OnOk result (IfSome (R.Read.remaining reader.old) (λ _. IsAtEnd (R.Read.remaining reader.new))) }
     // After a failed read it grew by the answers to a prefix of the lines.
     ensures read { result ≡ Err Cause.CannotRead → IfSome (R.Read.remaining reader.old) (λ input. ServedSomeOver (session_of A.reach at_end) (A.stands access.old)
-        (Finishes (session_of A.reach at_end) (A.stands access.new)) input (W.contents writer.old) (W.contents writer.new)) }
+        (Finishes (session_of A.reach at_end) (A.stands access.new)) input (Appends (W.contents writer.old) (W.contents writer.new))) }
     // After a failed write it grew by a prefix of such answers, the last of which was being written.
-    ensures failed { result ≡ Err Cause.CannotWrite → IfSome (R.Read.remaining reader.old) (λ input. ServedCutOver (session_of A.reach at_end) (A.stands access.old)
-        (Finishes (session_of A.reach at_end) (A.stands access.new)) input (W.contents writer.old) (W.contents writer.new)) }
+    ensures failed { result ≡ Err Cause.CannotWrite → IfSome (R.Read.remaining reader.old) (λ input. ServedSomeOver (session_of A.reach at_end) (A.stands access.old)
+        (Finishes (session_of A.reach at_end) (A.stands access.new)) input (WroteSome (W.contents writer.old) (W.contents writer.new))) }
     // Running out of memory stops no session that has begun.
     ensures memory { result ≡ Err Cause.OutOfMemory → (access.new ≡ access.old) × (reader.new ≡ reader.old) × (writer.new ≡ writer.old) }
 {
@@ -111,9 +111,9 @@ fn serve_lines<A: Access, R: BufRead, W: Write>(
         (Owns (session_of A.reach own.old.at_end) (A.stands access.new) own.new.numbers.items) input (W.contents writer.old) (W.contents writer.new) verdict)) }
     ensures end { OnOk result (IfSome (R.Read.remaining reader.old) (λ _. IsAtEnd (R.Read.remaining reader.new))) }
     ensures read { result ≡ Err Cause.CannotRead → IfSome (R.Read.remaining reader.old) (λ input. ServedSomeOver (session_of A.reach own.old.at_end) (A.stands access.old)
-        (Owns (session_of A.reach own.old.at_end) (A.stands access.new) own.new.numbers.items) input (W.contents writer.old) (W.contents writer.new)) }
-    ensures failed { result ≡ Err Cause.CannotWrite → IfSome (R.Read.remaining reader.old) (λ input. ServedCutOver (session_of A.reach own.old.at_end) (A.stands access.old)
-        (Owns (session_of A.reach own.old.at_end) (A.stands access.new) own.new.numbers.items) input (W.contents writer.old) (W.contents writer.new)) }
+        (Owns (session_of A.reach own.old.at_end) (A.stands access.new) own.new.numbers.items) input (Appends (W.contents writer.old) (W.contents writer.new))) }
+    ensures failed { result ≡ Err Cause.CannotWrite → IfSome (R.Read.remaining reader.old) (λ input. ServedSomeOver (session_of A.reach own.old.at_end) (A.stands access.old)
+        (Owns (session_of A.reach own.old.at_end) (A.stands access.new) own.new.numbers.items) input (WroteSome (W.contents writer.old) (W.contents writer.new))) }
     ensures memory { result ≡ Err Cause.OutOfMemory → (access.new ≡ access.old) × (own.new.numbers.items ≡ []) × (reader.new ≡ reader.old) × (writer.new ≡ writer.old) }
 {
     let mut line = Vec::with_capacity(alloc, MAX_REQUEST)?;

@@ -9,7 +9,7 @@ use Rattle.store_lines.specs.declared.ending.Ending.{Ending}
 use Rattle.store_lines.specs.inner.Script.{first_cause}
 use Rattle.store_lines.specs.declared.ending.Ending.TheVariants as endings
 use Rattle.edge.specs.declared.outcome.Cause.TheVariants as causes
-use Rattle.store_lines.proofs.ScriptSteps.{at_cut, at_end, at_failed_write, at_refusal, at_stop, begun, ended_reader, has_memory, if_ended, is_out, is_verdict, line_left, no_failed_read, no_failed_report, no_failed_write, no_write_failed, nothing_read, reported_left, reported_memory, reported_memory_read, reported_write, turned}
+use Rattle.store_lines.proofs.ScriptSteps.{after_refusal, at_end, at_refusal, at_stop, begun, cut_off, ended_memory, ended_reader, has_memory, if_ended, is_verdict, line_left, no_failed_read, no_failed_report, no_failed_write, no_write_failed, nothing_read, reported_left, reported_memory, reported_memory_read, reported_write, turned}
 use Rattle.store_lines.proofs.running.answer_lines.Goals as goal
 
 pub loop-index-init : goal.loop-index-init
@@ -24,7 +24,7 @@ returns-in_err-read-clause-read g c = λ is.
 pub returns-in_err-read-clause-memory : goal.returns-in_err-read-clause-memory
 returns-in_err-read-clause-memory g c = λ is.
     let reported : c.read_line.result ≡ Err causes.OutOfMemory = search rules in
-    at_refusal _ _ (g.R.Read.remaining c.args.reader.now) (g.R.Read.remaining c.loop-index.reader) _ (g.W.Write.contents c.args.writer.now) (g.W.Write.contents c.loop-index.writer) c.loop-index.store c.loop-index.ending (c.read_line.ensures.left reported) c.loop-index.invariant
+    at_refusal _ _ (g.R.Read.remaining c.args.reader.now) (g.R.Read.remaining c.loop-index.reader) (g.W.Write.contents c.args.writer.now) (g.W.Write.contents c.loop-index.writer) c.loop-index.store c.loop-index.ending (c.read_line.ensures.left reported) c.loop-index.invariant
 
 pub returns-then-read-eq0-clause-written : goal.returns-then-read-eq0-clause-written
 returns-then-read-eq0-clause-written g c =
@@ -35,11 +35,8 @@ returns-then-read-eq0-clause-written g c =
 
 pub returns-then-read-eq0-clause-memory : goal.returns-then-read-eq0-clause-memory
 returns-then-read-eq0-clause-memory g c = λ is.
-    let zero : c.in_ok-read.read.count ≡ 0 = search rules in
-    let none = nothing_read (g.R.Read.remaining c.loop-index.reader) c.in_ok-read.read c.read_line.new.line.items zero c.in_ok-read.ensures.read in
-    let ran = at_end _ _ (g.R.Read.remaining c.args.reader.now) (g.R.Read.remaining c.loop-index.reader) (g.W.Write.contents c.args.writer.now) (g.W.Write.contents c.loop-index.writer) c.loop-index.store c.loop-index.ending c.loop-index.invariant none in
-    let end = ended_reader _ _ (g.R.Read.remaining c.args.reader.now) (g.R.Read.remaining c.loop-index.reader) (g.R.Read.remaining c.read_line.new.reader) (g.W.Write.contents c.args.writer.now) (g.W.Write.contents c.loop-index.writer) c.loop-index.store c.loop-index.ending c.loop-index.invariant none c.in_ok-read.ensures.rest in
-    is_out _ (g.R.Read.remaining c.args.reader.now) (g.R.Read.remaining c.read_line.new.reader) (g.W.Write.contents c.args.writer.now) (g.W.Write.contents c.loop-index.writer) c.loop-index.ending end ran (rw c.ended_as.ensures at is)
+    let memory = ended_memory c.loop-index.ending (rw c.ended_as.ensures at is) in
+    at_refusal _ _ (g.R.Read.remaining c.args.reader.now) (g.R.Read.remaining c.loop-index.reader) (g.W.Write.contents c.args.writer.now) (g.W.Write.contents c.loop-index.writer) c.loop-index.store c.loop-index.ending (reported_left (g.R.Read.remaining c.loop-index.reader) c.loop-index.ending memory) c.loop-index.invariant
 
 pub returns-then-read-eq0-clause-read : goal.returns-then-read-eq0-clause-read
 returns-then-read-eq0-clause-read g c = λ is. absurd (no_failed_read c.loop-index.ending (rw c.ended_as.ensures at is))
@@ -55,7 +52,7 @@ pub returns-in_err-answer-clause-memory : goal.returns-in_err-answer-clause-memo
 returns-in_err-answer-clause-memory g c = λ is.
     let some : 0 < c.in_ok-read.read.count = omega arith in
     let left = line_left (g.R.Read.remaining c.loop-index.reader) c.loop-index.ending c.in_ok-read.read c.read_line.new.line.items some c.in_ok-read.ensures.read in
-    rw c.in_err-answer.ensures.untold (at_refusal _ _ (g.R.Read.remaining c.args.reader.now) (g.R.Read.remaining c.loop-index.reader) _ (g.W.Write.contents c.args.writer.now) (g.W.Write.contents c.loop-index.writer) c.loop-index.store c.loop-index.ending left c.loop-index.invariant)
+    rw c.in_err-answer.ensures.untold (at_refusal _ _ (g.R.Read.remaining c.args.reader.now) (g.R.Read.remaining c.loop-index.reader) (g.W.Write.contents c.args.writer.now) (g.W.Write.contents c.loop-index.writer) c.loop-index.store c.loop-index.ending left c.loop-index.invariant)
 
 pub returns-in_err-report-clause-read : goal.returns-in_err-report-clause-read
 returns-in_err-report-clause-read g c = λ is.
@@ -74,8 +71,9 @@ returns-in_err-report-clause-memory g c = λ is.
     let memory = reported_memory c.worse-ending.result (sym c.in_err-report.ensures.cause ∙ reported) in
     let wrote : WroteSome (g.W.Write.contents c.loop-index.writer) (g.W.Write.contents c.report.new.writer) (reported_text c.answer_read.new.store.journal c.in_ok-answer.answer) = search rules in
     let say = tells_more g.F.BadLines.tells c.args.faults.now c.loop-index.faults c.answer_read.new.faults (c.loop-index.index + 1) c.in_ok-read.read kept told in
-    at_failed_write _ _ _ (g.R.Read.remaining c.args.reader.now) (g.R.Read.remaining c.loop-index.reader) (g.R.Read.remaining c.read_line.new.reader) _ (g.W.Write.contents c.args.writer.now) (g.W.Write.contents c.loop-index.writer) (g.W.Write.contents c.report.new.writer)
-    c.loop-index.store c.answer_read.new.store c.loop-index.ending (reported_ending c.in_ok-answer.answer) c.in_ok-read.read kept (reported_text c.answer_read.new.store.journal c.in_ok-answer.answer) (sym next ∙ memory) c.loop-index.invariant c.in_ok-read.ensures.read c.in_ok-read.ensures.rest some answered wrote say
+    after_refusal _ (g.R.Read.remaining c.args.reader.now) (g.W.Write.contents c.args.writer.now) (g.W.Write.contents c.report.new.writer)
+    (cut_off _ _ _ (g.R.Read.remaining c.args.reader.now) (g.R.Read.remaining c.loop-index.reader) (g.R.Read.remaining c.read_line.new.reader) (g.W.Write.contents c.args.writer.now) (g.W.Write.contents c.loop-index.writer) (g.W.Write.contents c.report.new.writer)
+    c.loop-index.store c.answer_read.new.store c.loop-index.ending (reported_ending c.in_ok-answer.answer) c.in_ok-read.read kept (reported_text c.answer_read.new.store.journal c.in_ok-answer.answer) (λ ending. ending ≡ endings.OutOfMemory) (sym next ∙ memory) c.loop-index.invariant c.in_ok-read.ensures.read c.in_ok-read.ensures.rest some answered wrote say)
 
 pub returns-in_err-report-clause-failed : goal.returns-in_err-report-clause-failed
 returns-in_err-report-clause-failed g c = λ is.
@@ -89,8 +87,8 @@ returns-in_err-report-clause-failed g c = λ is.
     let memory = reported_write c.worse-ending.result (sym c.in_err-report.ensures.cause ∙ reported) in
     let wrote : WroteSome (g.W.Write.contents c.loop-index.writer) (g.W.Write.contents c.report.new.writer) (reported_text c.answer_read.new.store.journal c.in_ok-answer.answer) = search rules in
     let say = tells_more g.F.BadLines.tells c.args.faults.now c.loop-index.faults c.answer_read.new.faults (c.loop-index.index + 1) c.in_ok-read.read kept told in
-    at_cut _ _ _ (g.R.Read.remaining c.args.reader.now) (g.R.Read.remaining c.loop-index.reader) (g.R.Read.remaining c.read_line.new.reader) (g.W.Write.contents c.args.writer.now) (g.W.Write.contents c.loop-index.writer) (g.W.Write.contents c.report.new.writer)
-    c.loop-index.store c.answer_read.new.store c.loop-index.ending (reported_ending c.in_ok-answer.answer) c.in_ok-read.read kept (reported_text c.answer_read.new.store.journal c.in_ok-answer.answer) (subst (λ (e : Ending). e ≢ endings.OutOfMemory) next memory) c.loop-index.invariant c.in_ok-read.ensures.read c.in_ok-read.ensures.rest some answered wrote say
+    cut_off _ _ _ (g.R.Read.remaining c.args.reader.now) (g.R.Read.remaining c.loop-index.reader) (g.R.Read.remaining c.read_line.new.reader) (g.W.Write.contents c.args.writer.now) (g.W.Write.contents c.loop-index.writer) (g.W.Write.contents c.report.new.writer)
+    c.loop-index.store c.answer_read.new.store c.loop-index.ending (reported_ending c.in_ok-answer.answer) c.in_ok-read.read kept (reported_text c.answer_read.new.store.journal c.in_ok-answer.answer) (λ ending. ending ≢ endings.OutOfMemory) (subst (λ (e : Ending). e ≢ endings.OutOfMemory) next memory) c.loop-index.invariant c.in_ok-read.ensures.read c.in_ok-read.ensures.rest some answered wrote say
 
 pub returns-in_err-read-clause-failed : goal.returns-in_err-read-clause-failed
 returns-in_err-read-clause-failed g c = λ is.
@@ -127,4 +125,4 @@ returns-clause-read g c = λ is.
 pub returns-clause-memory : goal.returns-clause-memory
 returns-clause-memory g c = λ is.
     let memory : c.loop-index.ending ≡ endings.OutOfMemory = reported_memory_read c.loop-index.ending (search rules) in
-    at_refusal _ _ (g.R.Read.remaining c.args.reader.now) (g.R.Read.remaining c.loop-index.reader) _ (g.W.Write.contents c.args.writer.now) (g.W.Write.contents c.loop-index.writer) c.loop-index.store c.loop-index.ending (reported_left (g.R.Read.remaining c.loop-index.reader) c.loop-index.ending memory) c.loop-index.invariant
+    at_refusal _ _ (g.R.Read.remaining c.args.reader.now) (g.R.Read.remaining c.loop-index.reader) (g.W.Write.contents c.args.writer.now) (g.W.Write.contents c.loop-index.writer) c.loop-index.store c.loop-index.ending (reported_left (g.R.Read.remaining c.loop-index.reader) c.loop-index.ending memory) c.loop-index.invariant

@@ -2,6 +2,7 @@ use Rattle.std.proofs.Common.{rules, ◌≡◌, ◌∙◌, refl, ◌≤◌, ◌<
 use Rattle.std.specs.Prelude.{IfSome}
 use Rattle.std.specs.Io.KnownBytes.{Appends}
 use Rattle.edge.specs.Output.{WroteSome}
+use Rattle.edge.proofs.Output.{some_after}
 use Rattle.edge.specs.declared.outcome.Cause.TheVariants as causes
 use Rattle.store_lines.specs.Lines.{max_request}
 use Rattle.store_lines.specs.inner.Requests.{IsFound}
@@ -47,8 +48,8 @@ returns-in_err-serve_line-clause-read g c = λ is.
     let left = left_read reach mid now (g.R.Read.remaining c.loop.reader) (g.R.Read.remaining c.next_line.new.reader) c.in_ok-read.read c.next_line.new.line.items c.line_of-found.result found c.in_ok-read.ensures.read c.in_ok-read.ensures.rest (c.serve_line.ensures.left failed) in
     let before = stopped session was mid now c.loop.own.numbers.items (g.R.Read.remaining c.args.reader.now) (g.R.Read.remaining c.loop.reader) (g.W.Write.contents c.args.writer.now) (g.W.Write.contents c.loop.writer) c.loop.invariant.0 left in
     let unread = c.serve_line.ensures.unread failed in
-    subst (λ (o : OwnUploads). IfSome (g.R.Read.remaining c.args.reader.now) (λ input. ServedSomeOver session was (Owns session now o.numbers.items) input (g.W.Write.contents c.args.writer.now) (g.W.Write.contents c.serve_line.new.writer))) (sym unread)
-    (subst (λ w. IfSome (g.R.Read.remaining c.args.reader.now) (λ input. ServedSomeOver session was (Owns session now c.loop.own.numbers.items) input (g.W.Write.contents c.args.writer.now) (g.W.Write.contents w))) (sym same) before)
+    subst (λ (o : OwnUploads). IfSome (g.R.Read.remaining c.args.reader.now) (λ input. ServedSomeOver session was (Owns session now o.numbers.items) input (Appends (g.W.Write.contents c.args.writer.now) (g.W.Write.contents c.serve_line.new.writer)))) (sym unread)
+    (subst (λ w. IfSome (g.R.Read.remaining c.args.reader.now) (λ input. ServedSomeOver session was (Owns session now c.loop.own.numbers.items) input (Appends (g.W.Write.contents c.args.writer.now) (g.W.Write.contents w)))) (sym same) before)
 
 pub returns-in_err-serve_line-clause-failed : goal.returns-in_err-serve_line-clause-failed
 returns-in_err-serve_line-clause-failed g c = λ is.
@@ -62,8 +63,11 @@ returns-in_err-serve_line-clause-failed g c = λ is.
     let line = served_read true (g.R.Read.remaining c.next_line.new.reader) (g.R.Read.remaining c.serve_line.new.reader) (WroteSome (g.W.Write.contents c.loop.writer) (g.W.Write.contents c.serve_line.new.writer)) (session_of reach c.loop.own.at_end) mid now (Notes c.loop.own c.serve_line.new.own) c.in_ok-read.read c.next_line.new.line.items c.line_of-found.result found (c.serve_line.ensures.failed cause) in
     let served = subst (λ (uploads : UploadsAtEnd). IfSome (g.R.Read.remaining c.next_line.new.reader) (λ following. ServesReadOver (session_of reach uploads) mid now (Noted (session_of reach uploads) c.loop.own.numbers.items c.serve_line.new.own.numbers.items) true c.in_ok-read.read c.next_line.new.line.items following (g.R.Read.remaining c.serve_line.new.reader) (WroteSome (g.W.Write.contents c.loop.writer) (g.W.Write.contents c.serve_line.new.writer)))) c.loop.invariant.2 line in
     let some : 0 < c.in_ok-read.read.count = omega arith in
-    cut_off session (g.A.Access.stands c.args.access.now) mid now c.loop.own.numbers.items c.serve_line.new.own.numbers.items (g.R.Read.remaining c.args.reader.now) (g.R.Read.remaining c.loop.reader) (g.R.Read.remaining c.next_line.new.reader) (g.R.Read.remaining c.serve_line.new.reader) (g.W.Write.contents c.args.writer.now) (g.W.Write.contents c.loop.writer) (g.W.Write.contents c.serve_line.new.writer)
-    c.in_ok-read.read c.next_line.new.line.items (c.is_cut.ensures.whole (search rules)) c.loop.invariant.0 c.in_ok-read.ensures.read some c.in_ok-read.ensures.rest served
+    let w1 = g.W.Write.contents c.args.writer.now in
+    let w2 = g.W.Write.contents c.loop.writer in
+    let w3 = g.W.Write.contents c.serve_line.new.writer in
+    cut_off session (g.A.Access.stands c.args.access.now) mid now c.loop.own.numbers.items c.serve_line.new.own.numbers.items (g.R.Read.remaining c.args.reader.now) (g.R.Read.remaining c.loop.reader) (g.R.Read.remaining c.next_line.new.reader) (g.R.Read.remaining c.serve_line.new.reader) w1 w2 (WroteSome w2 w3) (WroteSome w1 w3)
+    c.in_ok-read.read c.next_line.new.line.items (c.is_cut.ensures.whole (search rules)) (some_after w1 w2 w3) c.loop.invariant.0 c.in_ok-read.ensures.read some c.in_ok-read.ensures.rest served
 
 pub returns-then-not-branch-clause-written : goal.returns-then-not-branch-clause-written
 returns-then-not-branch-clause-written g c =
