@@ -1,5 +1,5 @@
 -- How far a script has come.
-use Rattle.std.proofs.Common.{◌≡◌, ◌∙◌, ◌+◌, ◌<◌, ◌^◌, ℕ, Bool, true, false, List, [], ◌∷◌, ◌++◌, Some, None, Ok, Err, Result, refl, ap, sym, subst, arith, length, length-append, cond, append_assoc, ◌⊎◌, inl, inr}
+use Rattle.std.proofs.Common.{◌≡◌, ◌∙◌, ◌+◌, ◌<◌, ℕ, Bool, true, false, List, [], ◌∷◌, ◌++◌, Some, None, Ok, Err, Result, refl, ap, sym, subst, arith, length, length-append, cond, append_assoc}
 use Rattle.std.specs.Prelude.{◌≢◌, Option, ◌==◌, IfOk, IfSome, OnOk}
 use Rattle.std.specs.List.{flat_map}
 use Rattle.std.specs.Io.BufRead.{DropsThrough, drop_through, strip_last, take_through}
@@ -10,15 +10,14 @@ use Rattle.b3_forest.specs.Parts.{ModelPrepared, planned}
 use Rattle.store_upload.specs.Uploads.{UploadPlan, part_fault}
 use Rattle.store_upload.specs.declared.refusal.PartFault.{PartFault}
 use Rattle.store_books.specs.declared.refusal.Refusal.{Refusal}
-use Rattle.store_books.specs.declared.limits.Limits.{Limits}
-use Rattle.store_books.specs.Books.{empty_books, max_entries, max_tenants, max_workers}
+use Rattle.store_books.specs.Books.{max_entries, max_tenants, max_workers}
 use Rattle.store_core.specs.Questions.{plan_in}
 use Rattle.edge.specs.Lines.{lines_of}
 use Rattle.edge.proofs.FirstLines.{lines_next, none_left, nothing_is}
 use Rattle.edge.specs.Output.{WroteSome}
 use Rattle.edge.proofs.Joining.{appends_more, appends_none}
 use Rattle.edge.proofs.Output.{all_written, some_after}
-use Rattle.store_core.specs.Model.{ModelStore, start}
+use Rattle.store_core.specs.Model.{ModelStore}
 use Rattle.store_core.specs.Runs.{Call, Run, Step, ask, change, put}
 use Rattle.store_lines.specs.Grammar.{command_at, fault_at}
 use Rattle.store_lines.specs.declared.request.Request.{Request}
@@ -33,7 +32,7 @@ use Rattle.store_lines.specs.Running.{AreTurnsOf, HasMemory, Ran, RanOut, RanSom
 use Rattle.store_lines.specs.declared.bad_lines.LineFault.{LineFault}
 use Rattle.store_lines.proofs.Told.{told_more}
 use Rattle.store_lines.specs.Script.{IsTurnOfStep, Turn, bad, calls_of, ending_of, listed, replies_of, skipped, took, turn_ending, turn_text, unmade, unplanned, verdict_ending, widest_start, worse}
-use Rattle.store_lines.specs.inner.Script.{ended_as, first_cause}
+use Rattle.store_lines.specs.inner.Script.{RanUntil, result_of}
 use Rattle.store_lines.specs.declared.ending.Ending.{Ending}
 use Rattle.store_lines.specs.declared.ending.Ending.TheVariants as endings
 use Rattle.edge.specs.declared.outcome.Cause.{Cause}
@@ -209,55 +208,26 @@ ended_reader Told number (Some input) now then was is store ending h none drops 
     let nothing : h.rest ≡ [] = subst IsAtEnd h.left none in
     subst IsAtEnd (sym rest) (ap (drop_through 10) nothing)
 
--- ---- a run that ends
-
--- answered to its end: its verdict, or out of memory in an answer
-pub is_verdict : (Told : List (ℕ × LineFault) → Type 0) (old was is : Option (List ℕ)) (ending : Ending) → IfSome old (λ input. Ran input Told was is ending) → IfOk (ended_as ending) (λ verdict. IfSome old (λ input. Ran input Told was is (verdict_ending verdict)))
-is_verdict Told old was is endings.Good h = h
-is_verdict Told old was is endings.Refused h = h
-is_verdict Told old was is endings.OutOfMemory h = tt
-
-pub ended_memory : (ending : Ending) → ended_as ending ≡ Err causes.OutOfMemory → ending ≡ endings.OutOfMemory
-ended_memory endings.Good e = absurd (cc)
-ended_memory endings.Refused e = absurd (cc)
-ended_memory endings.OutOfMemory e = refl
-
-pub no_failed_read : (ending : Ending) → ended_as ending ≢ Err causes.CannotRead
-no_failed_read endings.Good = λ e. cc
-no_failed_read endings.Refused = λ e. cc
-no_failed_read endings.OutOfMemory = λ e. cc
-
-pub if_ended : (ending : Ending) (Holds : Type 0) → Holds → OnOk (ended_as ending) Holds
-if_ended endings.Good Holds h = h
-if_ended endings.Refused Holds h = h
-if_ended endings.OutOfMemory Holds h = tt
-
--- a failed read is reported only where no answer before reported out of memory
-pub has_memory : (ending : Ending) (cause : Cause) → (ending ≡ endings.OutOfMemory → cause ≡ causes.OutOfMemory) → cause ≡ causes.CannotRead → ending ≢ endings.OutOfMemory
-has_memory ending cause reported is = λ memory. let other = reported memory in absurd (cc)
-
-pub at_stop : (Told : List (ℕ × LineFault) → Type 0) (number : ℕ) (old now was is : Option (List ℕ)) (store : ModelStore) (ending : Ending) → ending ≢ endings.OutOfMemory → IfSome old (IsUnder Told number now was is store ending) → IfSome old (λ input. RanSome input Told HasMemory (Appends was is))
-at_stop Told number None now was is store ending memory h = tt
-at_stop Told number (Some input) now was is store ending memory h = some_ran Told number now was is store ending input h HasMemory (Appends was is) memory h.wrote
+-- ---- a run that stops
 
 some_left : (input : List ℕ) → 0 < length input → lines_of input ≢ []
 some_left input some = λ none. let nothing = ap length (nothing_is input none) in absurd (omega (arith, nothing, some))
 
--- a line is left, or an answer reported out of memory
-pub at_refusal : (Told : List (ℕ × LineFault) → Type 0) (number : ℕ) (old now was is : Option (List ℕ)) (store : ModelStore) (ending : Ending) → IfSome now (λ input. (0 < length input) ⊎ (ending ≡ endings.OutOfMemory)) → IfSome old (IsUnder Told number now was is store ending) → IfSome old (λ input. RanOut input Told was is)
-at_refusal Told number None now was is store ending some h = tt
-at_refusal Told number (Some input) now was is store ending some h =
-    let rest = subst (λ (o : Option (List ℕ)). IfSome o (λ input. (0 < length input) ⊎ (ending ≡ endings.OutOfMemory))) h.left some in
-    elim rest [
-      | inl some ↦ before_line (some_ran Told number now was is store ending input h (λ back ending. back ≢ []) (Appends was is) (some_left h.rest some) h.wrote)
-      | inr memory ↦ after_answer (some_ran Told number now was is store ending input h (λ back ending. ending ≡ endings.OutOfMemory) (WroteSome was is) memory (all_written was is (flat_map turn_text h.turns) h.wrote))
-    ]
+-- stopped before a line: its read failed, or an allocation for it
+pub until_line : (Told : List (ℕ × LineFault) → Type 0) (number : ℕ) (old now was is : Option (List ℕ)) (store : ModelStore) (ending : Ending) (cause : Cause) → cause ≢ causes.CannotWrite → (cause ≡ causes.OutOfMemory → IfSome now (λ left. 0 < length left)) → IfSome old (IsUnder Told number now was is store ending)
+    → IfSome old (λ input. RanUntil (Err cause) input Told was is ending)
+until_line Told number None now was is store ending cause unwritten some h = tt
+until_line Told number (Some input) now was is store ending causes.CannotRead unwritten some h = some_ran Told number now was is store ending input h (λ back said. said ≡ ending) (Appends was is) refl h.wrote
+until_line Told number (Some input) now was is store ending causes.CannotWrite unwritten some h = absurd (unwritten refl)
+until_line Told number (Some input) now was is store ending causes.OutOfMemory unwritten some h =
+    let left : 0 < length h.rest = subst (λ (o : Option (List ℕ)). IfSome o (λ left. 0 < length left)) h.left (some refl) in
+    some_ran Told number now was is store ending input h (λ back said. (back ≢ []) × (said ≡ ending)) (Appends was is) (some_left h.rest left, refl) h.wrote
 
 -- a line that was read is left
-pub line_left : (now : Option (List ℕ)) (ending : Ending) (got : LineRead) (kept : List ℕ) → 0 < got.count → IfSome now (λ xs. IsSessionLine (take_through 10 xs) got kept) → IfSome now (λ input. (0 < length input) ⊎ (ending ≡ endings.OutOfMemory))
-line_left None ending got kept some h = tt
-line_left (Some []) ending got kept some h = absurd (omega (arith, some, h.count_is))
-line_left (Some (b ∷ bs)) ending got kept some h = inl (omega arith)
+pub line_left : (now : Option (List ℕ)) (got : LineRead) (kept : List ℕ) → 0 < got.count → IfSome now (λ xs. IsSessionLine (take_through 10 xs) got kept) → IfSome now (λ left. 0 < length left)
+line_left None got kept some h = tt
+line_left (Some []) got kept some h = absurd (omega (arith, some, h.count_is))
+line_left (Some (b ∷ bs)) got kept some h = omega arith
 
 -- at the end nothing is read
 pub nothing_read : (now : Option (List ℕ)) (got : LineRead) (kept : List ℕ) → got.count ≡ 0 → IfSome now (λ xs. IsSessionLine (take_through 10 xs) got kept) → IsAtEnd now
@@ -271,11 +241,6 @@ nothing_read (Some xs) got kept zero h = nothing_through xs (omega (arith, h.cou
         some_through : (t : Bool) → length (cond t (b ∷ []) (b ∷ take_through 10 bs)) ≡ 0 → ⊥
         some_through true e = omega (arith, e)
         some_through false e = omega (arith, e)
-
--- an answer that was reported so
-pub reported_left : (now : Option (List ℕ)) (ending : Ending) → ending ≡ endings.OutOfMemory → IfSome now (λ input. (0 < length input) ⊎ (ending ≡ endings.OutOfMemory))
-reported_left None ending memory = tt
-reported_left (Some input) ending memory = inr memory
 
 -- whatever was written
 whatever_written : (Told : List (ℕ × LineFault) → Type 0) (number : ℕ) (old now was is : Option (List ℕ)) (store : ModelStore) (ending : Ending) → IfSome old (IsUnder Told number now was is store ending) → IfSome old (IsUnder Told number now None None store ending)
@@ -294,37 +259,6 @@ whatever_written Told number (Some input) now was is store ending h = record {
   count = h.count;
   told = h.told;
 }
-
-pub reported_memory : (ending : Ending) → first_cause ending causes.CannotWrite ≡ causes.OutOfMemory → ending ≡ endings.OutOfMemory
-reported_memory endings.Good e = absurd (cc)
-reported_memory endings.Refused e = absurd (cc)
-reported_memory endings.OutOfMemory e = refl
-
--- and a failed write only where no answer does
-pub reported_write : (ending : Ending) → first_cause ending causes.CannotWrite ≡ causes.CannotWrite → ending ≢ endings.OutOfMemory
-reported_write endings.Good e = λ memory. cc
-reported_write endings.Refused e = λ memory. cc
-reported_write endings.OutOfMemory e = absurd (cc)
-
-pub no_failed_write : (ending : Ending) → ended_as ending ≢ Err causes.CannotWrite
-no_failed_write endings.Good = λ e. cc
-no_failed_write endings.Refused = λ e. cc
-no_failed_write endings.OutOfMemory = λ e. cc
-
-pub no_write_failed : (ending : Ending) → first_cause ending causes.CannotRead ≢ causes.CannotWrite
-no_write_failed endings.Good = λ e. cc
-no_write_failed endings.Refused = λ e. cc
-no_write_failed endings.OutOfMemory = λ e. cc
-
-pub no_failed_report : (ending : Ending) → first_cause ending causes.CannotWrite ≢ causes.CannotRead
-no_failed_report endings.Good = λ e. cc
-no_failed_report endings.Refused = λ e. cc
-no_failed_report endings.OutOfMemory = λ e. cc
-
-pub reported_memory_read : (ending : Ending) → first_cause ending causes.CannotRead ≡ causes.OutOfMemory → ending ≡ endings.OutOfMemory
-reported_memory_read endings.Good e = absurd (cc)
-reported_memory_read endings.Refused e = absurd (cc)
-reported_memory_read endings.OutOfMemory e = refl
 
 -- ---- a line more of a run
 
@@ -356,26 +290,82 @@ turned Told Told2 number (Some input) now then was is after store next ending sa
 
 -- ---- a write that failed
 
-pub cut_off : (Told Told2 : List (ℕ × LineFault) → Type 0) (number : ℕ) (old now then was is after : Option (List ℕ)) (store next : ModelStore) (ending said : Ending) (got : LineRead) (kept text : List ℕ) (Ends : Ending → Type 0) → Ends (worse ending said) → IfSome old (IsUnder Told number now was is store ending) → IfSome now (λ xs. IsSessionLine (take_through 10 xs) got kept)
-    → DropsThrough now then 10 → 0 < got.count → AnswersRead store next got kept text said → WroteSome is after text → ((whole : List ℕ) → IsSessionLine whole got kept → (told : List (ℕ × LineFault)) → Told told → Told2 (told ++ told_of (number + 1) (fault_at (strip_last 10 whole)))) → IfSome old (λ input. RanSome input Told2 (λ back ending. Ends ending) (WroteSome was after))
+pub cut_off : (Told Told2 : List (ℕ × LineFault) → Type 0) (number : ℕ) (old now then was is after : Option (List ℕ)) (store next : ModelStore) (ending said : Ending) (got : LineRead) (kept text : List ℕ) → IfSome old (IsUnder Told number now was is store ending) → IfSome now (λ xs. IsSessionLine (take_through 10 xs) got kept)
+    → DropsThrough now then 10 → 0 < got.count → AnswersRead store next got kept text said → WroteSome is after text → ((whole : List ℕ) → IsSessionLine whole got kept → (told : List (ℕ × LineFault)) → Told told → Told2 (told ++ told_of (number + 1) (fault_at (strip_last 10 whole)))) → IfSome old (λ input. RanUntil (Err causes.CannotWrite) input Told2 was after (worse ending said))
 unfolding turned whatever_written
-cut_off Told Told2 number None now then was is after store next ending said got kept text Ends ends h read rest some answered wrote say = tt
-cut_off Told Told2 number (Some input) now then was is after store next ending said got kept text Ends ends h read rest some answered wrote say =
+cut_off Told Told2 number None now then was is after store next ending said got kept text h read rest some answered wrote say = tt
+cut_off Told Told2 number (Some input) now then was is after store next ending said got kept text h read rest some answered wrote say =
     let whole = take_through 10 h.rest in
     let read2 : IsSessionLine whole got kept = subst (λ (o : Option (List ℕ)). IfSome o (λ xs. IsSessionLine (take_through 10 xs) got kept)) h.left read in
     let answer = answered.answers whole read2 in
     let under = turned Told Told2 number (Some input) now then None None None store next ending said got kept text (whatever_written Told number (Some input) now was is store ending h) read rest some answered tt say in
     let wrote2 = subst (λ (t : List ℕ). WroteSome was after t) (ap (λ t. flat_map turn_text h.turns ++ t) answer.text_is ∙ sym (text_more h.turns answer.turn)) (some_after was is after (flat_map turn_text h.turns) text h.wrote wrote) in
-    some_ran Told2 (number + 1) then None None next (worse ending said) input under (λ back ending. Ends ending) (WroteSome was after) ends wrote2
+    some_ran Told2 (number + 1) then None None next (worse ending said) input under (λ back end. end ≡ worse ending said) (WroteSome was after) refl wrote2
 
-pub after_refusal : (Told : List (ℕ × LineFault) → Type 0) (old was is : Option (List ℕ)) → IfSome old (λ input. RanSome input Told (λ back ending. ending ≡ endings.OutOfMemory) (WroteSome was is)) → IfSome old (λ input. RanOut input Told was is)
-after_refusal Told None was is h = tt
-after_refusal Told (Some input) was is h = after_answer h
+-- ---- the result of a run
 
--- ---- the empty store
-
-pub starts_widest : (l : Limits) → l.tenants ≡ 2 ^ 16 → l.entries ≡ 2 ^ 32 → l.workers ≡ 16 → start l ≡ widest_start
-starts_widest l tenants entries workers = λ j. record {
-  state = empty_books (tenants j) (entries j) (workers j);
-  journal = [];
+-- the lines that are left, the ending and what was written have other properties too
+so : {Told : List (ℕ × LineFault) → Type 0} {Ends Ends2 : List (List ℕ) → Ending → Type 0} {Wrote Wrote2 : List ℕ → Type 0} (input : List ℕ) → ((back : List (List ℕ)) (ending : Ending) → Ends back ending → Ends2 back ending) → ((text : List ℕ) → Wrote text → Wrote2 text) → RanSome input Told Ends Wrote → RanSome input Told Ends2 Wrote2
+so input ends wrote h = record {
+  front = h.front;
+  back = h.back;
+  lines = h.lines;
+  turns = h.turns;
+  end = h.end;
+  plays = h.plays;
+  run = h.run;
+  law = h.law;
+  told = h.told;
+  ends = ends h.back (ending_of h.turns) h.ends;
+  wrote = wrote (flat_map turn_text h.turns) h.wrote;
 }
+
+-- it stopped for this cause
+stopped : (ending : Ending) (ended : Result (Unit {0}) Cause) (cause : Cause) → cause ≢ causes.OutOfMemory → result_of ending ended ≡ Err cause → (ended ≡ Err cause) × (ending ≢ endings.OutOfMemory)
+stopped endings.OutOfMemory ended cause other is = absurd (other (cc))
+stopped endings.Good (Ok done) cause other is = absurd (cc)
+stopped endings.Refused (Ok done) cause other is = absurd (cc)
+stopped endings.Good (Err reported) cause other is = (cc, λ memory. cc)
+stopped endings.Refused (Err reported) cause other is = (cc, λ memory. cc)
+
+module _ (Told : List (ℕ × LineFault) → Type 0) (was is : Option (List ℕ)) where
+  pub is_verdict : (ending : Ending) (ended : Result (Unit {0}) Cause) (old : Option (List ℕ)) → IfSome old (λ input. RanUntil ended input Told was is ending) → IfOk (result_of ending ended) (λ verdict. IfSome old (λ input. Ran input Told was is (verdict_ending verdict)))
+  is_verdict endings.OutOfMemory ended old h = tt
+  is_verdict endings.Good (Ok done) old h = h
+  is_verdict endings.Refused (Ok done) old h = h
+  is_verdict endings.Good (Err cause) old h = tt
+  is_verdict endings.Refused (Err cause) old h = tt
+
+  pub if_ended : (ending : Ending) (ended : Result (Unit {0}) Cause) (Holds : Type 0) → OnOk ended Holds → OnOk (result_of ending ended) Holds
+  if_ended endings.OutOfMemory ended Holds h = tt
+  if_ended endings.Good (Ok done) Holds h = h
+  if_ended endings.Refused (Ok done) Holds h = h
+  if_ended endings.Good (Err cause) Holds h = tt
+  if_ended endings.Refused (Err cause) Holds h = tt
+
+  has_memory : (ending : Ending) → ending ≢ endings.OutOfMemory → (Wrote : List ℕ → Type 0) (old : Option (List ℕ)) → IfSome old (λ input. RanSome input Told (λ back said. said ≡ ending) Wrote) → IfSome old (λ input. RanSome input Told HasMemory Wrote)
+  has_memory ending memory Wrote None h = tt
+  has_memory ending memory Wrote (Some input) h = so input (λ back said same. subst (λ (e : Ending). e ≢ endings.OutOfMemory) (sym same) memory) (λ text wrote. wrote) h
+
+  pub is_read : (ending : Ending) (ended : Result (Unit {0}) Cause) (old : Option (List ℕ)) → IfSome old (λ input. RanUntil ended input Told was is ending) → result_of ending ended ≡ Err causes.CannotRead → IfSome old (λ input. RanSome input Told HasMemory (Appends was is))
+  is_read ending ended old h e =
+      let s = stopped ending ended causes.CannotRead (λ memory. cc) e in
+      has_memory ending s.1 (Appends was is) old (subst (λ (r : Result (Unit {0}) Cause). IfSome old (λ input. RanUntil r input Told was is ending)) s.0 h)
+
+  pub is_failed : (ending : Ending) (ended : Result (Unit {0}) Cause) (old : Option (List ℕ)) → IfSome old (λ input. RanUntil ended input Told was is ending) → result_of ending ended ≡ Err causes.CannotWrite → IfSome old (λ input. RanSome input Told HasMemory (WroteSome was is))
+  is_failed ending ended old h e =
+      let s = stopped ending ended causes.CannotWrite (λ memory. cc) e in
+      has_memory ending s.1 (WroteSome was is) old (subst (λ (r : Result (Unit {0}) Cause). IfSome old (λ input. RanUntil r input Told was is ending)) s.0 h)
+
+  pub is_out : (ending : Ending) (ended : Result (Unit {0}) Cause) (old : Option (List ℕ)) → IfSome old (λ input. RanUntil ended input Told was is ending) → result_of ending ended ≡ Err causes.OutOfMemory → IfSome old (λ input. RanOut input Told was is)
+  is_out ending ended None h e = tt
+  is_out ending (Err causes.OutOfMemory) (Some input) h e = before_line (so input (λ back said k. k.0) (λ text wrote. wrote) h)
+  is_out endings.OutOfMemory (Ok done) (Some input) h e = after_answer (so input (λ back said k. k.1) (all_written was is) h)
+  is_out endings.OutOfMemory (Err causes.CannotRead) (Some input) h e = after_answer (so input (λ back said k. k) (all_written was is) h)
+  is_out endings.OutOfMemory (Err causes.CannotWrite) (Some input) h e = after_answer h
+  is_out endings.Good (Ok done) (Some input) h e = absurd (cc)
+  is_out endings.Good (Err causes.CannotRead) (Some input) h e = absurd (cc)
+  is_out endings.Good (Err causes.CannotWrite) (Some input) h e = absurd (cc)
+  is_out endings.Refused (Ok done) (Some input) h e = absurd (cc)
+  is_out endings.Refused (Err causes.CannotRead) (Some input) h e = absurd (cc)
+  is_out endings.Refused (Err causes.CannotWrite) (Some input) h e = absurd (cc)

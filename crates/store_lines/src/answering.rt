@@ -1,6 +1,6 @@
 //! Answers to lines.
 
-ghost use Rattle.std.specs.Prelude.{◌≡◌, [], IfErr, OnErr, OnOk};
+ghost use Rattle.std.specs.Prelude.{◌≡◌, IfErr, OnErr, OnOk};
 ghost use Rattle.std.specs.Io.KnownBytes.{Appends};
 ghost use Rattle.edge.specs.Output.{WroteSome};
 ghost use Rattle.store_core.specs.declared.store.questions.Question.TheVariants as questions;
@@ -17,15 +17,19 @@ use crate::request::{EntryRange, Wanted};
 use edge::{Cause, flush};
 use std::alloc::Global;
 use std::io::Write;
-use store_core::Refusal;
+use store_core::{Entry, Refusal};
 
-/// Writes an answer without entries of the journal, and flushes.
-pub(crate) fn report<W: Write>(writer: &mut W, answer: Answer) -> Result<(), Cause>
-    ensures wrote { OnOk result (Appends (W.contents writer.old) (W.contents writer.new) (reported_text [] answer)) }
-    ensures failed { OnErr result (WroteSome (W.contents writer.old) (W.contents writer.new) (reported_text [] answer)) }
+/// Writes an answer of a store whose journal is `entries`, and flushes.
+pub(crate) fn report<W: Write>(
+    writer: &mut W,
+    entries: &[Entry],
+    answer: Answer,
+) -> Result<(), Cause>
+    ensures wrote { OnOk result (Appends (W.contents writer.old) (W.contents writer.new) (reported_text entries.now answer)) }
+    ensures failed { OnErr result (WroteSome (W.contents writer.old) (W.contents writer.new) (reported_text entries.now answer)) }
     ensures cause { IfErr result (λ cause. cause ≡ Cause.CannotWrite) }
 {
-    answer.write(&[], writer)?;
+    answer.write(entries, writer)?;
     flush(writer)
 }
 

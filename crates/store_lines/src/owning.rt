@@ -154,5 +154,5 @@ pub(crate) fn execute<A: Access, W: Write>(
         return refuse(writer, Refusal::NoMemory);
     }
     let reply = own.step(access, &command, work);
-    report(writer, Answer::Replied(reply))
+    report(writer, &[], Answer::Replied(reply))
 }

@@ -1,21 +1,21 @@
 //! The engine.
 
-ghost use Rattle.std.specs.Prelude.{◌≡◌, ◌≢◌, ◌<◌, ◌⊎◌, IfErr, IfOk, IfSome, OnErr, OnOk, Err, Ok, length};
+ghost use Rattle.std.specs.Prelude.{◌≡◌, ◌≢◌, ◌<◌, IfErr, IfOk, IfSome, OnOk, Err, length};
 ghost use Rattle.std.specs.Io.BufRead.{DropsThrough, take_through};
 ghost use Rattle.std.specs.Io.KnownBytes.{Appends, IsAtEnd};
 ghost use Rattle.edge.specs.Output.{WroteSome};
-ghost use Rattle.store_lines.specs.inner.Answers.{reported_ending, reported_text};
 ghost use Rattle.store_lines.specs.inner.Requests.{IsSessionLine};
 ghost use Rattle.store_lines.specs.Running.{AreTold, HasMemory, Ran, RanOut, RanSome};
 ghost use Rattle.store_lines.specs.Script.{verdict_ending, widest_start, worse};
-ghost use Rattle.store_lines.specs.inner.Script.{ended_as, first_cause};
+ghost use Rattle.store_lines.specs.inner.Script.{RanUntil, result_of};
 ghost use Rattle.store_lines.specs.declared.ending.Ending.TheVariants as endings;
 
-use crate::answer::{Answer, MAX_LINE, answer_read};
+use crate::answer::{MAX_LINE, answer_read};
+use crate::answering::report;
 use crate::bad_lines::BadLines;
 use crate::ending::Ending;
 use b3_core::Work;
-use edge::{Cause, LineRead, Verdict, flush};
+use edge::{Cause, LineRead, Verdict};
 use std::alloc::Global;
 use std::io::{BufRead, Write};
 use store_core::{Limits, Store};
@@ -41,60 +41,54 @@ pub fn run<R: BufRead, W: Write, F: BadLines>(
     ensures read { result ≡ Err Cause.CannotRead → IfSome (R.Read.remaining reader.old) (λ input. RanSome input (AreTold F.tells faults.old faults.new) HasMemory (Appends (W.contents writer.old) (W.contents writer.new))) }
     // After a failed write it grew by a prefix of such answers, the last of which was being written.
     ensures failed { result ≡ Err Cause.CannotWrite → IfSome (R.Read.remaining reader.old) (λ input. RanSome input (AreTold F.tells faults.old faults.new) HasMemory (WroteSome (W.contents writer.old) (W.contents writer.new))) }
-    // If out of memory, it grew by the script's output, with a `refused S14` in it, or by the answers to a prefix of the lines; or, if a
-    // write failed after a `refused S14`, by a prefix of these answers.
+    // If out of memory, it grew by the answers to the lines before one for which an allocation failed; or some answer is `refused S14`, and
+    // it grew by the answers to a prefix of the lines or, if a write failed, by a prefix of these answers.
     ensures memory { result ≡ Err Cause.OutOfMemory → IfSome (R.Read.remaining reader.old) (λ input. RanOut input (AreTold F.tells faults.old faults.new) (W.contents writer.old) (W.contents writer.new)) }
 {
     let mut store = Store::new(alloc, Limits::full());
-    answer_lines(alloc, &mut store, reader, writer, faults, work)
+    let mut ending = Ending::Good;
+    let ended = answer_lines(alloc, &mut store, reader, writer, faults, &mut ending, work);
+    result_of(ending, ended)
 }
 
-// Answers the lines of a script, starting with an empty store.
+// Answers the lines of a script, starting with an empty store; `ending` is then how the answers end.
 fn answer_lines<R: BufRead, W: Write, F: BadLines>(
     alloc: Global,
     store: &mut Store,
     reader: &mut R,
     writer: &mut W,
     faults: &mut F,
+    ending: &mut Ending,
     work: &mut Work,
-) -> Result<Verdict, Cause>
-    requires { store.old ≡ widest_start }
-    ensures written { IfOk result (λ verdict. IfSome (R.Read.remaining reader.old) (λ input. Ran input (AreTold F.tells faults.old faults.new) (W.contents writer.old) (W.contents writer.new) (verdict_ending verdict))) }
+) -> Result<(), Cause>
+    requires store { store.old ≡ widest_start }
+    requires ending { ending.old ≡ endings.Good }
+    ensures until { IfSome (R.Read.remaining reader.old) (λ input. RanUntil result input (AreTold F.tells faults.old faults.new) (W.contents writer.old) (W.contents writer.new) ending.new) }
     ensures end { OnOk result (IfSome (R.Read.remaining reader.old) (λ _. IsAtEnd (R.Read.remaining reader.new))) }
-    ensures read { result ≡ Err Cause.CannotRead → IfSome (R.Read.remaining reader.old) (λ input. RanSome input (AreTold F.tells faults.old faults.new) HasMemory (Appends (W.contents writer.old) (W.contents writer.new))) }
-    ensures failed { result ≡ Err Cause.CannotWrite → IfSome (R.Read.remaining reader.old) (λ input. RanSome input (AreTold F.tells faults.old faults.new) HasMemory (WroteSome (W.contents writer.old) (W.contents writer.new))) }
-    ensures memory { result ≡ Err Cause.OutOfMemory → IfSome (R.Read.remaining reader.old) (λ input. RanOut input (AreTold F.tells faults.old faults.new) (W.contents writer.old) (W.contents writer.new)) }
 {
-    let mut ending = Ending::Good;
     let mut line: Vec<u8> = Vec::new(alloc);
     for index in 0..u64::MAX {
-        let read = read_line(reader, &mut line, ending)?;
+        let read = read_line(reader, &mut line)?;
         if read.count == 0 {
-            return ended_as(ending);
+            return Ok(());
         }
         let number = index + 1;
         let answer = answer_read(alloc, store, number, line.as_slice(), read, faults, work)?;
-        ending = worse(ending, answer.ending());
-        report(writer, store, answer, ending)?;
+        *ending = worse(*ending, answer.ending());
+        report(writer, store.journal(), answer)?;
     }
-    Err(first_cause(ending, Cause::CannotRead))
+    Err(Cause::CannotRead)
 }
 
-// Reads the next line with its newline, keeping at most as many bytes as a command's line can have; it has none at the end of the input. A
-// failure is reported as the first cause, given how the answers so far end.
-fn read_line<R: BufRead>(
-    reader: &mut R,
-    line: &mut Vec<u8>,
-    ending: Ending,
-) -> Result<LineRead, Cause>
+// Reads the next line with its newline, keeping at most as many bytes as a command's line can have; it has none at the end of the input.
+fn read_line<R: BufRead>(reader: &mut R, line: &mut Vec<u8>) -> Result<LineRead, Cause>
     ensures read { IfOk result (λ read. IfSome (R.Read.remaining reader.old) (λ left. IsSessionLine (take_through 10 left) read line.new.items)) }
     ensures rest { OnOk result (DropsThrough (R.Read.remaining reader.old) (R.Read.remaining reader.new) 10) }
-    // An allocation failed for a line's bytes, or an earlier answer was `refused S14`.
-    ensures left { result ≡ Err Cause.OutOfMemory → IfSome (R.Read.remaining reader.old) (λ left. (0 < length left) ⊎ (ending ≡ endings.OutOfMemory)) }
-    ensures cause { IfErr result (λ cause. ending ≡ endings.OutOfMemory → cause ≡ Cause.OutOfMemory) }
+    // An allocation failed for a line's bytes.
+    ensures left { result ≡ Err Cause.OutOfMemory → IfSome (R.Read.remaining reader.old) (λ left. 0 < length left) }
     ensures unwritten { IfErr result (λ cause. cause ≢ Cause.CannotWrite) }
 {
-    let read = edge::read_line(reader, line, MAX_LINE).map_err(|cause| first_cause(ending, cause))?;
+    let read = edge::read_line(reader, line, MAX_LINE)?;
     if read.is_kept {
         Ok(read)
     } else {
@@ -102,40 +96,14 @@ fn read_line<R: BufRead>(
     }
 }
 
-// Writes an answer, and flushes. A failure is reported as the first cause, given how the answers end, this one included.
-fn report<W: Write>(
-    writer: &mut W,
-    store: &Store,
-    answer: Answer,
-    ending: Ending,
-) -> Result<(), Cause>
-    ensures wrote { OnOk result (Appends (W.contents writer.old) (W.contents writer.new) (reported_text store.now.journal answer)) }
-    ensures failed { OnErr result (WroteSome (W.contents writer.old) (W.contents writer.new) (reported_text store.now.journal answer)) }
-    ensures cause { IfErr result (λ cause. cause ≡ first_cause ending Cause.CannotWrite) }
-{
-    let cause = first_cause(ending, Cause::CannotWrite);
-    answer.write(store.journal(), writer).map_err(|_| cause)?;
-    flush(writer).map_err(|_| cause)
-}
-
-// The result of a script that was answered completely.
-fn ended_as(ending: Ending) -> Result<Verdict, Cause>
-    ensures { result ≡ ended_as ending }
+// The result of a run whose answers end like this, and that stopped like this.
+fn result_of(ending: Ending, ended: Result<(), Cause>) -> Result<Verdict, Cause>
+    ensures { result ≡ result_of ending ended }
 {
     match ending {
-        Ending::Good => Ok(Verdict::Good),
-        Ending::Refused => Ok(Verdict::Refused),
+        Ending::Good => ended.map(|()| Verdict::Good),
+        Ending::Refused => ended.map(|()| Verdict::Refused),
         Ending::OutOfMemory => Err(Cause::OutOfMemory),
-    }
-}
-
-// The cause that stops a run, given how the answers so far end.
-fn first_cause(ending: Ending, cause: Cause) -> Cause
-    ensures { result ≡ first_cause ending cause }
-{
-    match ending {
-        Ending::OutOfMemory => Cause::OutOfMemory,
-        Ending::Good | Ending::Refused => cause,
     }
 }
 

@@ -181,8 +181,8 @@ pub(crate) fn serve_line<A: Access, R: BufRead, W: Write>(
         Line::Has(request) => return serve_request(
             alloc, access, own, reader, writer, request, work,
         ),
-        Line::Empty => report(writer, Answer::Nothing)?,
-        Line::Bad(_) => report(writer, Answer::Bad)?,
+        Line::Empty => report(writer, &[], Answer::Nothing)?,
+        Line::Bad(_) => report(writer, &[], Answer::Bad)?,
         Line::NoMemory => refuse(writer, Refusal::NoMemory)?,
     }
     Ok(true)
@@ -217,18 +217,18 @@ fn serve_request<A: Access, R: BufRead, W: Write>(
         Request::Does(command) => execute(access, own, writer, command, work)?,
         Request::Asks(question) => {
             let reply = access.ask(question);
-            report(writer, Answer::Replied(reply))?;
+            report(writer, &[], Answer::Replied(reply))?;
         }
         Request::Put(part) => {
             let answer = put_bytes(alloc, access, part, work);
-            report(writer, answer)?;
+            report(writer, &[], answer)?;
         }
         Request::PutRaw(part) => match receive(alloc, access, reader, part, work)? {
-            Some(answer) => report(writer, answer)?,
+            Some(answer) => report(writer, &[], answer)?,
             None => return Ok(false),
         },
         Request::File(filing) => match file(alloc, access, reader, filing, work)? {
-            Some(answer) => report(writer, answer)?,
+            Some(answer) => report(writer, &[], answer)?,
             None => return Ok(false),
         },
         Request::Fetch(wanted) => give(access, writer, wanted)?,

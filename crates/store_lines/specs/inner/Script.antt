@@ -1,5 +1,9 @@
 -- Definitions for private functions, in addition to specs/Script.
-use Rattle.std.specs.Prelude.{Result, Ok, Err}
+use Rattle.std.specs.Prelude.{◌≡◌, ◌≢◌, ℕ, List, [], Option, Result, Ok, Err}
+use Rattle.std.specs.Io.KnownBytes.{Appends}
+use Rattle.edge.specs.Output.{WroteSome}
+use Rattle.store_lines.specs.Running.{Ran, RanSome}
+use Rattle.store_lines.specs.declared.bad_lines.LineFault.{LineFault}
 use Rattle.store_lines.specs.declared.ending.Ending.{Ending}
 use Rattle.store_lines.specs.declared.ending.Ending.TheVariants as endings
 use Rattle.edge.specs.declared.outcome.Cause.{Cause}
@@ -9,13 +13,16 @@ use Rattle.edge.specs.declared.outcome.Verdict.TheVariants as verdicts
 
 -- ---- a script
 
--- the cause that stops a run, given how the answers so far end: out of memory if one of them was, otherwise the cause that occurs now
-abbrev pub first_cause : Ending → Cause → Cause
-first_cause endings.OutOfMemory cause = causes.OutOfMemory
-first_cause _ cause = cause
+-- What was answered when a script's lines ended, or no more of them were answered for this cause; and how the answers end.
+abbrev pub RanUntil : Result (Unit {0}) Cause → List ℕ → (List (ℕ × LineFault) → Type 0) → Option (List ℕ) → Option (List ℕ) → Ending → Type 0
+RanUntil (Ok done) input Told old new ending = Ran input Told old new ending
+RanUntil (Err causes.CannotRead) input Told old new ending = RanSome input Told (λ back said. said ≡ ending) (Appends old new)
+RanUntil (Err causes.CannotWrite) input Told old new ending = RanSome input Told (λ back said. said ≡ ending) (WroteSome old new)
+RanUntil (Err causes.OutOfMemory) input Told old new ending = RanSome input Told (λ back said. (back ≢ []) × (said ≡ ending)) (Appends old new)
 
--- the result of a script that was answered completely, given how its answers end
-abbrev pub ended_as : Ending → Result Verdict Cause
-ended_as endings.Good = Ok verdicts.Good
-ended_as endings.Refused = Ok verdicts.Refused
-ended_as endings.OutOfMemory = Err causes.OutOfMemory
+-- the result of a run, given how its answers end: out of memory if one of them was; otherwise why it stopped, or its verdict
+abbrev pub result_of : Ending → Result (Unit {0}) Cause → Result Verdict Cause
+result_of endings.OutOfMemory ended = Err causes.OutOfMemory
+result_of ending (Err cause) = Err cause
+result_of endings.Good (Ok done) = Ok verdicts.Good
+result_of endings.Refused (Ok done) = Ok verdicts.Refused
