@@ -144,64 +144,60 @@ runs old new (line ∷ lines) (turn ∷ turns) h = run_on old.store h.0.store ne
 
 -- ---- a run under way
 
--- the lines before the rest were answered: what they came to, what was written, and the ending so far
-pub record IsUnder (Told : List (ℕ × LineFault) → Type 0) (number : ℕ) (now was is : Option (List ℕ)) (store : ModelStore) (ending : Ending) (input : List ℕ) : Type 0 where
-  pub rest : List ℕ
-  pub left : now ≡ Some rest
-  pub front : List (List ℕ)
-  pub lines : lines_of input ≡ front ++ lines_of rest
-  pub turns : List Turn
-  pub end : SessionState
-  pub stands : alone_stands store end
-  pub plays : AreTurnsOf (newly widest_start) front turns end
-  pub wrote : Appends was is (flat_map turn_text turns)
-  pub ending_is : ending ≡ ending_of turns
-  pub count : number ≡ length front
-  pub told : Told (told_from 1 front)
-
-pub begun : (Told : List (ℕ × LineFault) → Type 0) (old was : Option (List ℕ)) (store : ModelStore) → store ≡ widest_start → Told [] → IfSome old (IsUnder Told 0 old was was store endings.Good)
-begun Told None was store is nothing = tt
-begun Told (Some input) was store is nothing = record {
-  rest = input;
-  left = refl;
-  front = [];
-  lines = refl;
-  turns = [];
-  end = newly widest_start;
-  stands = sym is;
-  plays = refl;
-  wrote = appends_none was;
-  ending_is = refl;
-  count = refl;
-  told = nothing;
-}
-
--- what was answered so far
-some_ran : (Told : List (ℕ × LineFault) → Type 0) (number : ℕ) (now was is : Option (List ℕ)) (store : ModelStore) (ending : Ending) (input : List ℕ) (h : IsUnder Told number now was is store ending input) (Ends : List (List ℕ) → Ending → Type 0) (Wrote : List ℕ → Type 0) → Ends (lines_of h.rest) ending → Wrote (flat_map turn_text h.turns) → RanSome input Told Ends Wrote
-some_ran Told number now was is store ending input h Ends Wrote ends wrote =
-    let run = runs (newly widest_start) h.end h.front h.turns h.plays in
+-- the steps of such turns are a run
+abbrev ran_by : {Told : List (ℕ × LineFault) → Type 0} {Ends : List (List ℕ) → Ending → Type 0} {Wrote : List ℕ → Type 0} (input : List ℕ) (front back : List (List ℕ)) (turns : List Turn) (end : SessionState) → lines_of input ≡ front ++ back → AreTurnsOf (newly widest_start) front turns end → Told (told_from 1 front) → Ends back (ending_of turns) → Wrote (flat_map turn_text turns) → RanSome input Told Ends Wrote
+ran_by input front back turns end lines plays told ends wrote =
+    let run = runs (newly widest_start) end front turns plays in
     record {
-      front = h.front;
-      back = lines_of h.rest;
-      lines = h.lines;
-      turns = h.turns;
-      end = h.end;
-      plays = h.plays;
+      front = front;
+      back = back;
+      lines = lines;
+      turns = turns;
+      end = end;
+      plays = plays;
       run = run;
-      law = (runs_carry widest_start h.end.store (calls_of h.turns) (replies_of h.turns) (empty_carried max_tenants max_entries max_workers (omega arith) (omega arith)) run).0;
-      told = h.told;
-      ends = subst (Ends (lines_of h.rest)) h.ending_is ends;
+      law = (runs_carry widest_start end.store (calls_of turns) (replies_of turns) (empty_carried max_tenants max_entries max_workers (omega arith) (omega arith)) run).0;
+      told = told;
+      ends = ends;
       wrote = wrote;
     }
 
-pub at_end : (Told : List (ℕ × LineFault) → Type 0) (number : ℕ) (old now was is : Option (List ℕ)) (store : ModelStore) (ending : Ending) → IfSome old (IsUnder Told number now was is store ending) → IsAtEnd now → IfSome old (λ input. Ran input Told was is ending)
+-- the lines that are left, the ending and what was written have other properties too
+so : {Told : List (ℕ × LineFault) → Type 0} {Ends Ends2 : List (List ℕ) → Ending → Type 0} {Wrote Wrote2 : List ℕ → Type 0} (input : List ℕ) → ((back : List (List ℕ)) (ending : Ending) → Ends back ending → Ends2 back ending) → ((text : List ℕ) → Wrote text → Wrote2 text) → RanSome input Told Ends Wrote → RanSome input Told Ends2 Wrote2
+so input ends wrote h = record {
+  front = h.front;
+  back = h.back;
+  lines = h.lines;
+  turns = h.turns;
+  end = h.end;
+  plays = h.plays;
+  run = h.run;
+  law = h.law;
+  told = h.told;
+  ends = ends h.back (ending_of h.turns) h.ends;
+  wrote = wrote (flat_map turn_text h.turns) h.wrote;
+}
+
+-- the lines before the rest were answered, and this much was written
+pub record IsUnder (Told : List (ℕ × LineFault) → Type 0) (number : ℕ) (now : Option (List ℕ)) (Wrote : List ℕ → Type 0) (store : ModelStore) (ending : Ending) (input : List ℕ) : Type 0 where
+  pub rest : List ℕ
+  pub left : now ≡ Some rest
+  pub ran : RanSome input Told (λ back said. (back ≡ lines_of rest) × (said ≡ ending)) Wrote
+  pub stands : alone_stands store ran.end
+  pub count : number ≡ length ran.front
+
+pub begun : (Told : List (ℕ × LineFault) → Type 0) (old was : Option (List ℕ)) (store : ModelStore) → store ≡ widest_start → Told [] → IfSome old (IsUnder Told 0 old (Appends was was) store endings.Good)
+begun Told None was store is nothing = tt
+begun Told (Some input) was store is nothing = record { rest = input; left = refl; ran = ran_by input [] (lines_of input) [] (newly widest_start) refl refl nothing (refl, refl) (appends_none was); stands = sym is; count = refl }
+
+pub at_end : (Told : List (ℕ × LineFault) → Type 0) (number : ℕ) (old now was is : Option (List ℕ)) (store : ModelStore) (ending : Ending) → IfSome old (IsUnder Told number now (Appends was is) store ending) → IsAtEnd now → IfSome old (λ input. Ran input Told was is ending)
 at_end Told number None now was is store ending h e = tt
 at_end Told number (Some input) now was is store ending h e =
     let none : IsAtEnd (Some h.rest) = subst IsAtEnd h.left e in
-    some_ran Told number now was is store ending input h (λ back said. (back ≡ []) × (said ≡ ending)) (Appends was is) (ap lines_of none ∙ none_left, refl) h.wrote
+    so input (λ back said k. (k.0 ∙ ap lines_of none ∙ none_left, k.1)) (λ text wrote. wrote) h.ran
 
 -- at the end the reader stays there
-pub ended_reader : (Told : List (ℕ × LineFault) → Type 0) (number : ℕ) (old now then was is : Option (List ℕ)) (store : ModelStore) (ending : Ending) → IfSome old (IsUnder Told number now was is store ending) → IsAtEnd now → DropsThrough now then 10 → IfSome old (λ _. IsAtEnd then)
+pub ended_reader : (Told : List (ℕ × LineFault) → Type 0) (number : ℕ) (old now then was is : Option (List ℕ)) (store : ModelStore) (ending : Ending) → IfSome old (IsUnder Told number now (Appends was is) store ending) → IsAtEnd now → DropsThrough now then 10 → IfSome old (λ _. IsAtEnd then)
 ended_reader Told number None now then was is store ending h none drops = tt
 ended_reader Told number (Some input) now then was is store ending h none drops =
     let rest : then ≡ Some (drop_through 10 h.rest) = subst (λ (o : Option (List ℕ)). DropsThrough o then 10) h.left drops in
@@ -214,14 +210,19 @@ some_left : (input : List ℕ) → 0 < length input → lines_of input ≢ []
 some_left input some = λ none. let nothing = ap length (nothing_is input none) in absurd (omega (arith, nothing, some))
 
 -- stopped before a line: its read failed, or an allocation for it
-pub until_line : (Told : List (ℕ × LineFault) → Type 0) (number : ℕ) (old now was is : Option (List ℕ)) (store : ModelStore) (ending : Ending) (cause : Cause) → cause ≢ causes.CannotWrite → (cause ≡ causes.OutOfMemory → IfSome now (λ left. 0 < length left)) → IfSome old (IsUnder Told number now was is store ending)
+pub until_line : (Told : List (ℕ × LineFault) → Type 0) (number : ℕ) (old now was is : Option (List ℕ)) (store : ModelStore) (ending : Ending) (cause : Cause) → cause ≢ causes.CannotWrite → (cause ≡ causes.OutOfMemory → IfSome now (λ left. 0 < length left)) → IfSome old (IsUnder Told number now (Appends was is) store ending)
     → IfSome old (λ input. RanUntil (Err cause) input Told was is ending)
 until_line Told number None now was is store ending cause unwritten some h = tt
-until_line Told number (Some input) now was is store ending causes.CannotRead unwritten some h = some_ran Told number now was is store ending input h (λ back said. said ≡ ending) (Appends was is) refl h.wrote
+until_line Told number (Some input) now was is store ending causes.CannotRead unwritten some h = so input (λ back said k. k.1) (λ text wrote. wrote) h.ran
 until_line Told number (Some input) now was is store ending causes.CannotWrite unwritten some h = absurd (unwritten refl)
 until_line Told number (Some input) now was is store ending causes.OutOfMemory unwritten some h =
     let left : 0 < length h.rest = subst (λ (o : Option (List ℕ)). IfSome o (λ left. 0 < length left)) h.left (some refl) in
-    some_ran Told number now was is store ending input h (λ back said. (back ≢ []) × (said ≡ ending)) (Appends was is) (some_left h.rest left, refl) h.wrote
+    so input (λ back said k. (λ none. some_left h.rest left (sym k.0 ∙ none), k.1)) (λ text wrote. wrote) h.ran
+
+-- the answer to a line was written in part
+pub in_answer : (Told : List (ℕ × LineFault) → Type 0) (number : ℕ) (old now was is : Option (List ℕ)) (store : ModelStore) (ending : Ending) → IfSome old (IsUnder Told number now (WroteSome was is) store ending) → IfSome old (λ input. RanUntil (Err causes.CannotWrite) input Told was is ending)
+in_answer Told number None now was is store ending h = tt
+in_answer Told number (Some input) now was is store ending h = so input (λ back said k. k.1) (λ text wrote. wrote) h.ran
 
 -- a line that was read is left
 pub line_left : (now : Option (List ℕ)) (got : LineRead) (kept : List ℕ) → 0 < got.count → IfSome now (λ xs. IsSessionLine (take_through 10 xs) got kept) → IfSome now (λ left. 0 < length left)
@@ -242,83 +243,33 @@ nothing_read (Some xs) got kept zero h = nothing_through xs (omega (arith, h.cou
         some_through true e = omega (arith, e)
         some_through false e = omega (arith, e)
 
--- whatever was written
-whatever_written : (Told : List (ℕ × LineFault) → Type 0) (number : ℕ) (old now was is : Option (List ℕ)) (store : ModelStore) (ending : Ending) → IfSome old (IsUnder Told number now was is store ending) → IfSome old (IsUnder Told number now None None store ending)
-whatever_written Told number None now was is store ending h = tt
-whatever_written Told number (Some input) now was is store ending h = record {
-  rest = h.rest;
-  left = h.left;
-  front = h.front;
-  lines = h.lines;
-  turns = h.turns;
-  end = h.end;
-  stands = h.stands;
-  plays = h.plays;
-  wrote = tt;
-  ending_is = h.ending_is;
-  count = h.count;
-  told = h.told;
-}
-
 -- ---- a line more of a run
 
-pub turned : (Told Told2 : List (ℕ × LineFault) → Type 0) (number : ℕ) (old now then was is after : Option (List ℕ)) (store next : ModelStore) (ending said : Ending) (got : LineRead) (kept text : List ℕ) → IfSome old (IsUnder Told number now was is store ending) → IfSome now (λ xs. IsSessionLine (take_through 10 xs) got kept)
-    → DropsThrough now then 10 → 0 < got.count → AnswersRead store next got kept text said → Appends is after text → ((whole : List ℕ) → IsSessionLine whole got kept → (told : List (ℕ × LineFault)) → Told told → Told2 (told ++ told_of (number + 1) (fault_at (strip_last 10 whole)))) → IfSome old (IsUnder Told2 (number + 1) then was after next (worse ending said))
-turned Told Told2 number None now then was is after store next ending said got kept text h read rest some answered wrote say = tt
-turned Told Told2 number (Some input) now then was is after store next ending said got kept text h read rest some answered wrote say =
+pub turned : (Told Told2 : List (ℕ × LineFault) → Type 0) (number : ℕ) (old now then : Option (List ℕ)) (Wrote Wrote2 Wrote3 : List ℕ → Type 0) (store next : ModelStore) (ending said : Ending) (got : LineRead) (kept text : List ℕ) → ((done text : List ℕ) → Wrote done → Wrote2 text → Wrote3 (done ++ text)) → IfSome old (IsUnder Told number now Wrote store ending)
+    → IfSome now (λ xs. IsSessionLine (take_through 10 xs) got kept) → DropsThrough now then 10 → 0 < got.count → AnswersRead store next got kept text said → Wrote2 text → ((whole : List ℕ) → IsSessionLine whole got kept → (told : List (ℕ × LineFault)) → Told told → Told2 (told ++ told_of (number + 1) (fault_at (strip_last 10 whole)))) → IfSome old (IsUnder Told2 (number + 1) then Wrote3 next (worse ending said))
+turned Told Told2 number None now then Wrote Wrote2 Wrote3 store next ending said got kept text more h read rest some answered wrote say = tt
+turned Told Told2 number (Some input) now then Wrote Wrote2 Wrote3 store next ending said got kept text more h read rest some answered wrote say =
     let whole = take_through 10 h.rest in
     let read2 : IsSessionLine whole got kept = subst (λ (o : Option (List ℕ)). IfSome o (λ xs. IsSessionLine (take_through 10 xs) got kept)) h.left read in
     let rest2 : then ≡ Some (drop_through 10 h.rest) = subst (λ (o : Option (List ℕ)). DropsThrough o then 10) h.left rest in
     let line = strip_last 10 whole in
     let some2 : 0 < length whole = omega (arith, some, read2.count_is) in
     let answer = answered.answers whole read2 in
-    let goes = answer.is h.end h.stands in
+    let ran = h.ran in
+    let goes = answer.is ran.end h.stands in
+    let lines = ran.lines ∙ ap (λ ls. ran.front ++ ls) (ran.ends.0 ∙ lines_next h.rest some2) ∙ sym (append_assoc ran.front (line ∷ []) (lines_of (drop_through 10 h.rest))) in
+    let ending_is = ending_more ran.turns answer.turn ∙ ap (λ e. worse e (turn_ending answer.turn)) ran.ends.1 ∙ ap (worse ending) (sym answer.ending_is) in
+    let told = subst Told2 (sym (told_more 1 ran.front line (number + 1) (omega (arith, h.count)))) (say whole read2 (told_from 1 ran.front) ran.told) in
+    let wrote2 = subst Wrote3 (ap (λ t. flat_map turn_text ran.turns ++ t) answer.text_is ∙ sym (text_more ran.turns answer.turn)) (more (flat_map turn_text ran.turns) text ran.wrote wrote) in
     record {
       rest = drop_through 10 h.rest;
       left = rest2;
-      front = h.front ++ line ∷ [];
-      lines = h.lines ∙ ap (λ ls. h.front ++ ls) (lines_next h.rest some2) ∙ sym (append_assoc h.front (line ∷ []) (lines_of (drop_through 10 h.rest)));
-      turns = h.turns ++ answer.turn ∷ [];
-      end = goes.0;
+      ran = ran_by input (ran.front ++ line ∷ []) (lines_of (drop_through 10 h.rest)) (ran.turns ++ answer.turn ∷ []) goes.0 lines (more_play (newly widest_start) ran.end goes.0 ran.front ran.turns line answer.turn ran.plays goes.1.1) told (refl, ending_is) wrote2;
       stands = goes.1.0;
-      plays = more_play (newly widest_start) h.end goes.0 h.front h.turns line answer.turn h.plays goes.1.1;
-      wrote = subst (λ (t : List ℕ). Appends was after t) (ap (λ t. flat_map turn_text h.turns ++ t) answer.text_is ∙ sym (text_more h.turns answer.turn)) (appends_more was is after (flat_map turn_text h.turns) text h.wrote wrote);
-      count = omega (arith, h.count, length-append h.front (line ∷ []));
-      told = subst Told2 (sym (told_more 1 h.front line (number + 1) (omega (arith, h.count)))) (say whole read2 (told_from 1 h.front) h.told);
-      ending_is = ap (λ e. worse e said) h.ending_is ∙ ap (worse (ending_of h.turns)) answer.ending_is ∙ sym (ending_more h.turns answer.turn);
+      count = omega (arith, h.count, length-append ran.front (line ∷ []));
     }
 
--- ---- a write that failed
-
-pub cut_off : (Told Told2 : List (ℕ × LineFault) → Type 0) (number : ℕ) (old now then was is after : Option (List ℕ)) (store next : ModelStore) (ending said : Ending) (got : LineRead) (kept text : List ℕ) → IfSome old (IsUnder Told number now was is store ending) → IfSome now (λ xs. IsSessionLine (take_through 10 xs) got kept)
-    → DropsThrough now then 10 → 0 < got.count → AnswersRead store next got kept text said → WroteSome is after text → ((whole : List ℕ) → IsSessionLine whole got kept → (told : List (ℕ × LineFault)) → Told told → Told2 (told ++ told_of (number + 1) (fault_at (strip_last 10 whole)))) → IfSome old (λ input. RanUntil (Err causes.CannotWrite) input Told2 was after (worse ending said))
-unfolding turned whatever_written
-cut_off Told Told2 number None now then was is after store next ending said got kept text h read rest some answered wrote say = tt
-cut_off Told Told2 number (Some input) now then was is after store next ending said got kept text h read rest some answered wrote say =
-    let whole = take_through 10 h.rest in
-    let read2 : IsSessionLine whole got kept = subst (λ (o : Option (List ℕ)). IfSome o (λ xs. IsSessionLine (take_through 10 xs) got kept)) h.left read in
-    let answer = answered.answers whole read2 in
-    let under = turned Told Told2 number (Some input) now then None None None store next ending said got kept text (whatever_written Told number (Some input) now was is store ending h) read rest some answered tt say in
-    let wrote2 = subst (λ (t : List ℕ). WroteSome was after t) (ap (λ t. flat_map turn_text h.turns ++ t) answer.text_is ∙ sym (text_more h.turns answer.turn)) (some_after was is after (flat_map turn_text h.turns) text h.wrote wrote) in
-    some_ran Told2 (number + 1) then None None next (worse ending said) input under (λ back end. end ≡ worse ending said) (WroteSome was after) refl wrote2
-
 -- ---- the result of a run
-
--- the lines that are left, the ending and what was written have other properties too
-so : {Told : List (ℕ × LineFault) → Type 0} {Ends Ends2 : List (List ℕ) → Ending → Type 0} {Wrote Wrote2 : List ℕ → Type 0} (input : List ℕ) → ((back : List (List ℕ)) (ending : Ending) → Ends back ending → Ends2 back ending) → ((text : List ℕ) → Wrote text → Wrote2 text) → RanSome input Told Ends Wrote → RanSome input Told Ends2 Wrote2
-so input ends wrote h = record {
-  front = h.front;
-  back = h.back;
-  lines = h.lines;
-  turns = h.turns;
-  end = h.end;
-  plays = h.plays;
-  run = h.run;
-  law = h.law;
-  told = h.told;
-  ends = ends h.back (ending_of h.turns) h.ends;
-  wrote = wrote (flat_map turn_text h.turns) h.wrote;
-}
 
 -- it stopped for this cause
 stopped : (ending : Ending) (ended : Result (Unit {0}) Cause) (cause : Cause) → cause ≢ causes.OutOfMemory → result_of ending ended ≡ Err cause → (ended ≡ Err cause) × (ending ≢ endings.OutOfMemory)

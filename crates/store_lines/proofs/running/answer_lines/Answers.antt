@@ -1,10 +1,12 @@
 use Rattle.std.proofs.Common.{rules, arith, ◌≡◌, ◌∙◌, ◌+◌, ◌<◌, Err, List, ℕ, ap, refl, subst}
 use Rattle.std.specs.Io.KnownBytes.{Appends}
 use Rattle.edge.specs.Output.{WroteSome}
+use Rattle.edge.proofs.Joining.{appends_more}
+use Rattle.edge.proofs.Output.{some_after}
 use Rattle.store_lines.specs.inner.Answers.{AnswersRead, TellsRead, reported_ending, reported_text}
 use Rattle.store_lines.proofs.Told.{tells_more}
 use Rattle.edge.specs.declared.outcome.Cause.TheVariants as causes
-use Rattle.store_lines.proofs.ScriptSteps.{at_end, begun, cut_off, ended_reader, line_left, nothing_read, turned, until_line}
+use Rattle.store_lines.proofs.ScriptSteps.{at_end, begun, ended_reader, in_answer, line_left, nothing_read, turned, until_line}
 use Rattle.store_lines.proofs.running.answer_lines.Goals as goal
 
 pub loop-index-init : goal.loop-index-init
@@ -47,8 +49,12 @@ returns-in_err-report-clause-until g c =
     let wrote : WroteSome (g.W.Write.contents c.loop-index.writer) (g.W.Write.contents c.report.new.writer) text = search rules in
     let say = tells_more g.F.BadLines.tells c.args.faults.now c.loop-index.faults c.answer_read.new.faults (c.loop-index.index + 1) c.in_ok-read.read kept told in
     let ended : c.from_residual-in_err-report.result ≡ Err causes.CannotWrite = search rules in
-    rw (ended, c.worse.ensures, c.ending.ensures) (cut_off _ _ _ (g.R.Read.remaining c.args.reader.now) (g.R.Read.remaining c.loop-index.reader) (g.R.Read.remaining c.read_line.new.reader) (g.W.Write.contents c.args.writer.now) (g.W.Write.contents c.loop-index.writer) (g.W.Write.contents c.report.new.writer)
-    c.loop-index.store c.answer_read.new.store c.loop-index.ending (reported_ending c.in_ok-answer.answer) c.in_ok-read.read kept text c.loop-index.invariant c.in_ok-read.ensures.read c.in_ok-read.ensures.rest some answered wrote say)
+    let w1 = g.W.Write.contents c.args.writer.now in
+    let w2 = g.W.Write.contents c.loop-index.writer in
+    let w3 = g.W.Write.contents c.report.new.writer in
+    rw (ended, c.worse.ensures, c.ending.ensures) (in_answer _ _ (g.R.Read.remaining c.args.reader.now) (g.R.Read.remaining c.read_line.new.reader) w1 w3 c.answer_read.new.store _
+    (turned _ _ _ (g.R.Read.remaining c.args.reader.now) (g.R.Read.remaining c.loop-index.reader) (g.R.Read.remaining c.read_line.new.reader) (Appends w1 w2) (WroteSome w2 w3) (WroteSome w1 w3)
+    c.loop-index.store c.answer_read.new.store c.loop-index.ending (reported_ending c.in_ok-answer.answer) c.in_ok-read.read kept text (some_after w1 w2 w3) c.loop-index.invariant c.in_ok-read.ensures.read c.in_ok-read.ensures.rest some answered wrote say))
 
 pub loop-index-preserved : goal.loop-index-preserved
 loop-index-preserved g c =
@@ -60,8 +66,11 @@ loop-index-preserved g c =
     let some : 0 < c.in_ok-read.read.count = omega arith in
     let wrote : Appends (g.W.Write.contents c.loop-index.writer) (g.W.Write.contents c.report.new.writer) text = search rules in
     let say = tells_more g.F.BadLines.tells c.args.faults.now c.loop-index.faults c.answer_read.new.faults (c.loop-index.index + 1) c.in_ok-read.read kept told in
-    rw (c.worse.ensures, c.ending.ensures) (turned _ _ _ (g.R.Read.remaining c.args.reader.now) (g.R.Read.remaining c.loop-index.reader) (g.R.Read.remaining c.read_line.new.reader) (g.W.Write.contents c.args.writer.now) (g.W.Write.contents c.loop-index.writer) (g.W.Write.contents c.report.new.writer)
-    c.loop-index.store c.answer_read.new.store c.loop-index.ending (reported_ending c.in_ok-answer.answer) c.in_ok-read.read kept text c.loop-index.invariant c.in_ok-read.ensures.read c.in_ok-read.ensures.rest some answered wrote say)
+    let w1 = g.W.Write.contents c.args.writer.now in
+    let w2 = g.W.Write.contents c.loop-index.writer in
+    let w3 = g.W.Write.contents c.report.new.writer in
+    rw (c.worse.ensures, c.ending.ensures) (turned _ _ _ (g.R.Read.remaining c.args.reader.now) (g.R.Read.remaining c.loop-index.reader) (g.R.Read.remaining c.read_line.new.reader) (Appends w1 w2) (Appends w2 w3) (Appends w1 w3)
+    c.loop-index.store c.answer_read.new.store c.loop-index.ending (reported_ending c.in_ok-answer.answer) c.in_ok-read.read kept text (appends_more w1 w2 w3) c.loop-index.invariant c.in_ok-read.ensures.read c.in_ok-read.ensures.rest some answered wrote say)
 
 pub returns-clause-until : goal.returns-clause-until
 returns-clause-until g c = until_line _ _ (g.R.Read.remaining c.args.reader.now) (g.R.Read.remaining c.loop-index.reader) (g.W.Write.contents c.args.writer.now) (g.W.Write.contents c.loop-index.writer) c.loop-index.store c.loop-index.ending causes.CannotRead (λ same. cc) (λ memory. absurd (cc)) c.loop-index.invariant
