@@ -15,8 +15,8 @@ use Rattle.store_core.specs.Questions.{plan_in}
 use Rattle.edge.specs.Lines.{lines_of}
 use Rattle.edge.proofs.FirstLines.{lines_next, none_left, nothing_is}
 use Rattle.edge.specs.Output.{WroteSome}
-use Rattle.edge.proofs.Joining.{appends_more, appends_none}
-use Rattle.edge.proofs.Output.{all_written, some_after}
+use Rattle.edge.proofs.Joining.{appends_none}
+use Rattle.edge.proofs.Output.{all_written}
 use Rattle.store_core.specs.Model.{ModelStore}
 use Rattle.store_core.specs.Runs.{Call, Run, Step, ask, change, put}
 use Rattle.store_lines.specs.Grammar.{command_at, fault_at}

@@ -1,6 +1,7 @@
 use Rattle.std.proofs.Common.{rules, ◌≡◌, ◌∙◌, refl, ◌≤◌, ◌<◌, Err, arith, false, inl, inr, subst, sym, true, vec_capacity, List, ℕ}
 use Rattle.std.specs.Prelude.{IfSome}
 use Rattle.std.specs.Io.KnownBytes.{Appends}
+use Rattle.std.proofs.KnownBytes.{Appends-trans}
 use Rattle.edge.specs.Output.{WroteSome}
 use Rattle.edge.proofs.Output.{some_after}
 use Rattle.edge.specs.declared.outcome.Cause.TheVariants as causes
@@ -13,7 +14,7 @@ use Rattle.store_lines.specs.inner.Reporting.{Notes, Owns, ServesReadOver}
 use Rattle.store_lines.specs.declared.owning.OwnUploads.{OwnUploads}
 use Rattle.store_lines.specs.declared.owning.UploadsAtEnd.{UploadsAtEnd}
 use Rattle.store_lines.proofs.Serves.{served_read}
-use Rattle.store_lines.proofs.Under.{Noted, all_read, at_cut, at_end, begun, cut_off, left_read, truncated, stopped, turned, unended, unread}
+use Rattle.store_lines.proofs.Under.{Noted, all_read, at_cut, at_end, begun, left_read, truncated, stopped, turned, unended, unread}
 use Rattle.store_lines.proofs.serving.serve_lines.Goals as goal
 
 pub loop-init : goal.loop-init
@@ -22,7 +23,7 @@ loop-init g c =
     (begun (session_of g.A.Access.reach c.args.own.now.at_end) (g.A.Access.stands c.args.access.now) c.args.own.now.numbers.items (g.R.Read.remaining c.args.reader.now) (g.W.Write.contents c.args.writer.now) c.requires, room, refl)
 
 pub returns-in_err-read-clause-read : goal.returns-in_err-read-clause-read
-returns-in_err-read-clause-read g c = λ is. stopped (session_of g.A.Access.reach c.args.own.now.at_end) (g.A.Access.stands c.args.access.now) (g.A.Access.stands c.loop.access) (g.A.Access.stands c.loop.access) c.loop.own.numbers.items (g.R.Read.remaining c.args.reader.now) (g.R.Read.remaining c.loop.reader) (g.W.Write.contents c.args.writer.now) (g.W.Write.contents c.loop.writer) c.loop.invariant.0 (unread g.A.Access.reach (g.A.Access.stands c.loop.access) (g.R.Read.remaining c.loop.reader))
+returns-in_err-read-clause-read g c = λ is. stopped (session_of g.A.Access.reach c.args.own.now.at_end) (g.A.Access.stands c.args.access.now) (g.A.Access.stands c.loop.access) (g.A.Access.stands c.loop.access) c.loop.own.numbers.items (g.R.Read.remaining c.args.reader.now) (g.R.Read.remaining c.loop.reader) (Appends (g.W.Write.contents c.args.writer.now) (g.W.Write.contents c.loop.writer)) c.loop.invariant.0 (unread g.A.Access.reach (g.A.Access.stands c.loop.access) (g.R.Read.remaining c.loop.reader))
 
 pub returns-then-read-eq0-clause-written : goal.returns-then-read-eq0-clause-written
 returns-then-read-eq0-clause-written g c =
@@ -46,7 +47,7 @@ returns-in_err-serve_line-clause-read g c = λ is.
     let kept : c.as_slice.result.now ≡ c.next_line.new.line.items = search rules in
     let found = subst (λ (k : List ℕ). IsFound c.in_ok-read.read k c.line_of-found.result) kept c.line_of-found.ensures in
     let left = left_read reach mid now (g.R.Read.remaining c.loop.reader) (g.R.Read.remaining c.next_line.new.reader) c.in_ok-read.read c.next_line.new.line.items c.line_of-found.result found c.in_ok-read.ensures.read c.in_ok-read.ensures.rest (c.serve_line.ensures.left failed) in
-    let before = stopped session was mid now c.loop.own.numbers.items (g.R.Read.remaining c.args.reader.now) (g.R.Read.remaining c.loop.reader) (g.W.Write.contents c.args.writer.now) (g.W.Write.contents c.loop.writer) c.loop.invariant.0 left in
+    let before = stopped session was mid now c.loop.own.numbers.items (g.R.Read.remaining c.args.reader.now) (g.R.Read.remaining c.loop.reader) (Appends (g.W.Write.contents c.args.writer.now) (g.W.Write.contents c.loop.writer)) c.loop.invariant.0 left in
     let unread = c.serve_line.ensures.unread failed in
     subst (λ (o : OwnUploads). IfSome (g.R.Read.remaining c.args.reader.now) (λ input. ServedSomeOver session was (Owns session now o.numbers.items) input (Appends (g.W.Write.contents c.args.writer.now) (g.W.Write.contents c.serve_line.new.writer)))) (sym unread)
     (subst (λ w. IfSome (g.R.Read.remaining c.args.reader.now) (λ input. ServedSomeOver session was (Owns session now c.loop.own.numbers.items) input (Appends (g.W.Write.contents c.args.writer.now) (g.W.Write.contents w)))) (sym same) before)
@@ -66,8 +67,11 @@ returns-in_err-serve_line-clause-failed g c = λ is.
     let w1 = g.W.Write.contents c.args.writer.now in
     let w2 = g.W.Write.contents c.loop.writer in
     let w3 = g.W.Write.contents c.serve_line.new.writer in
-    cut_off session (g.A.Access.stands c.args.access.now) mid now c.loop.own.numbers.items c.serve_line.new.own.numbers.items (g.R.Read.remaining c.args.reader.now) (g.R.Read.remaining c.loop.reader) (g.R.Read.remaining c.next_line.new.reader) (g.R.Read.remaining c.serve_line.new.reader) w1 w2 (WroteSome w2 w3) (WroteSome w1 w3)
-    c.in_ok-read.read c.next_line.new.line.items (c.is_cut.ensures.whole (search rules)) (some_after w1 w2 w3) c.loop.invariant.0 c.in_ok-read.ensures.read some c.in_ok-read.ensures.rest served
+    let own = c.serve_line.new.own.numbers.items in
+    let left = g.R.Read.remaining c.serve_line.new.reader in
+    let more = turned session (g.A.Access.stands c.args.access.now) mid now c.loop.own.numbers.items own (g.R.Read.remaining c.args.reader.now) (g.R.Read.remaining c.loop.reader) (g.R.Read.remaining c.next_line.new.reader) left (Appends w1 w2) (WroteSome w2 w3) (WroteSome w1 w3)
+    c.in_ok-read.read c.next_line.new.line.items true refl (c.is_cut.ensures.whole (search rules)) (some_after w1 w2 w3) c.loop.invariant.0 c.in_ok-read.ensures.read some c.in_ok-read.ensures.rest served in
+    stopped session (g.A.Access.stands c.args.access.now) now now own (g.R.Read.remaining c.args.reader.now) left (WroteSome w1 w3) more (unread reach now left)
 
 pub returns-then-not-branch-clause-written : goal.returns-then-not-branch-clause-written
 returns-then-not-branch-clause-written g c =
@@ -123,12 +127,15 @@ loop-preserved g c =
     let line = served_read c.in_ok-serve_line.field-0 (g.R.Read.remaining c.next_line.new.reader) (g.R.Read.remaining c.serve_line.new.reader) (Appends (g.W.Write.contents c.loop.writer) (g.W.Write.contents c.serve_line.new.writer)) (session_of reach c.loop.own.at_end) mid now (Notes c.loop.own c.serve_line.new.own) c.in_ok-read.read c.next_line.new.line.items c.line_of-found.result found c.in_ok-serve_line.ensures.served in
     let served = subst (λ (uploads : UploadsAtEnd). IfSome (g.R.Read.remaining c.next_line.new.reader) (λ following. ServesReadOver (session_of reach uploads) mid now (Noted (session_of reach uploads) c.loop.own.numbers.items c.serve_line.new.own.numbers.items) c.in_ok-serve_line.field-0 c.in_ok-read.read c.next_line.new.line.items following (g.R.Read.remaining c.serve_line.new.reader) (Appends (g.W.Write.contents c.loop.writer) (g.W.Write.contents c.serve_line.new.writer)))) c.loop.invariant.2 line in
     let some : 0 < c.in_ok-read.read.count = omega arith in
+    let w1 = g.W.Write.contents c.args.writer.now in
+    let w2 = g.W.Write.contents c.loop.writer in
+    let w3 = g.W.Write.contents c.serve_line.new.writer in
     let room : max_request ≤ vec_capacity c.next_line.new.line = search rules in (
-      turned session (g.A.Access.stands c.args.access.now) mid now c.loop.own.numbers.items c.serve_line.new.own.numbers.items (g.R.Read.remaining c.args.reader.now) (g.R.Read.remaining c.loop.reader) (g.R.Read.remaining c.next_line.new.reader) (g.R.Read.remaining c.serve_line.new.reader) (g.W.Write.contents c.args.writer.now) (g.W.Write.contents c.loop.writer) (g.W.Write.contents c.serve_line.new.writer)
-          c.in_ok-read.read c.next_line.new.line.items c.in_ok-serve_line.field-0 whole (c.is_cut.ensures.whole (search rules)) c.loop.invariant.0 c.in_ok-read.ensures.read some c.in_ok-read.ensures.rest served,
+      turned session (g.A.Access.stands c.args.access.now) mid now c.loop.own.numbers.items c.serve_line.new.own.numbers.items (g.R.Read.remaining c.args.reader.now) (g.R.Read.remaining c.loop.reader) (g.R.Read.remaining c.next_line.new.reader) (g.R.Read.remaining c.serve_line.new.reader) (Appends w1 w2) (Appends w2 w3) (Appends w1 w3)
+          c.in_ok-read.read c.next_line.new.line.items c.in_ok-serve_line.field-0 whole (c.is_cut.ensures.whole (search rules)) (Appends-trans w1 w2 w3) c.loop.invariant.0 c.in_ok-read.ensures.read some c.in_ok-read.ensures.rest served,
       room,
       c.serve_line.ensures.at_end ∙ c.loop.invariant.2,
     )
 
 pub returns-clause-read : goal.returns-clause-read
-returns-clause-read g c = λ is. stopped (session_of g.A.Access.reach c.args.own.now.at_end) (g.A.Access.stands c.args.access.now) (g.A.Access.stands c.loop.access) (g.A.Access.stands c.loop.access) c.loop.own.numbers.items (g.R.Read.remaining c.args.reader.now) (g.R.Read.remaining c.loop.reader) (g.W.Write.contents c.args.writer.now) (g.W.Write.contents c.loop.writer) c.loop.invariant.0 (unread g.A.Access.reach (g.A.Access.stands c.loop.access) (g.R.Read.remaining c.loop.reader))
+returns-clause-read g c = λ is. stopped (session_of g.A.Access.reach c.args.own.now.at_end) (g.A.Access.stands c.args.access.now) (g.A.Access.stands c.loop.access) (g.A.Access.stands c.loop.access) c.loop.own.numbers.items (g.R.Read.remaining c.args.reader.now) (g.R.Read.remaining c.loop.reader) (Appends (g.W.Write.contents c.args.writer.now) (g.W.Write.contents c.loop.writer)) c.loop.invariant.0 (unread g.A.Access.reach (g.A.Access.stands c.loop.access) (g.R.Read.remaining c.loop.reader))
