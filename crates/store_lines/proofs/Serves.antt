@@ -8,7 +8,7 @@ use Rattle.store_lines.specs.Grammar.{command_at}
 use Rattle.store_lines.specs.inner.Answers.{reported_text}
 use Rattle.store_lines.specs.Script.{bad, skipped}
 use Rattle.store_lines.specs.declared.answer.Answer.{Answer}
-use Rattle.store_lines.specs.inner.Requests.{IsFound, IsLineOf, IsOwnOrScript, MayTakeMemory}
+use Rattle.store_lines.specs.inner.Requests.{IsFound, IsLineOf, IsOwnOrScript, IsSessionLine, MayTakeMemory}
 use Rattle.store_lines.specs.Requests.{request_in}
 use Rattle.store_lines.specs.Session.{IsShort, SessionTurn, as_script, filed, no_memory, reported_as, session_turn_text}
 use Rattle.edge.specs.declared.lines.LineRead.{LineRead}
@@ -21,8 +21,11 @@ use Rattle.store_lines.specs.declared.session_line.Line.{Line}
 use Rattle.store_lines.specs.declared.session_line.Line.TheVariants as lines
 use Rattle.store_lines.specs.Access.{SessionState, Reach, at}
 use Rattle.store_lines.specs.Filing.{FileTurn}
-use Rattle.store_lines.specs.Owning.{Session}
-use Rattle.store_lines.specs.inner.Reporting.{FilesOver, Leaves, LeavesLineOver, LeavesOver, ReceivesOver, ReportedOver, ServesLineOver, ServesOver, ServesReadOver, ServesRequestOver}
+use Rattle.store_lines.specs.Owning.{Session, session_of}
+use Rattle.store_lines.specs.declared.owning.OwnUploads.{OwnUploads}
+use Rattle.store_lines.specs.declared.owning.UploadsAtEnd.{UploadsAtEnd}
+use Rattle.store_lines.proofs.Under.{Noted}
+use Rattle.store_lines.specs.inner.Reporting.{FilesOver, Leaves, LeavesLineOver, LeavesOver, Notes, ReceivesOver, ReportedOver, ServesLineOver, ServesOver, ServesReadOver, ServesRequestOver}
 use Rattle.store_lines.specs.Turns.{IsCut, IsLinkedBytes, IsLinkedRequest, IsLinkedScriptLine, MayLack}
 use Rattle.store_lines.proofs.Read.{found}
 use Rattle.store_lines.proofs.Reports.{plays, put_reported, script_turn}
@@ -211,8 +214,10 @@ served_no_memory now Wrote session was Has line same has wrote =
     subst (λ (l : Line). IfSome now (λ following. ServesLineOver session was was Has true l following now Wrote)) (sym same)
     (line_served now Wrote session was Has lines.NoMemory no_memory (λ whole h. h) (λ text before may. (may_lack session text may, refl)) has wrote)
 
--- a line that was read
-pub served_read : (is_whole : Bool) (now left : Option (List ℕ)) (Wrote : List ℕ → Type 0) (session : Session) (was is : SessionState → Type 0) (Has : SessionTurn → Type 0) (read : LineRead) (kept : List ℕ) (line : Line) → IsFound read kept line → IfSome now (λ following. ServesLineOver session was is Has is_whole line following left Wrote)
-    → IfSome now (λ following. ServesReadOver session was is Has is_whole read kept following left Wrote)
-served_read is_whole None left Wrote session was is Has read kept line f h = tt
-served_read is_whole (Some following) left Wrote session was is Has read kept line f h = record { serves = λ whole r. h.serves whole (f.is whole r) }
+-- a line that was read, after which the session's own uploads are noted
+pub noted_read : (reach : Reach) (uploads : UploadsAtEnd) (was is : SessionState → Type 0) (old new : OwnUploads) (is_whole : Bool) (now left : Option (List ℕ)) (Wrote : List ℕ → Type 0) (read : LineRead) (slice kept : List ℕ) (line : Line) → old.at_end ≡ uploads → slice ≡ kept → IsFound read slice line
+    → IfSome now (λ following. ServesLineOver (session_of reach old.at_end) was is (Notes old new) is_whole line following left Wrote) → IfSome now (λ following. ServesReadOver (session_of reach uploads) was is (Noted (session_of reach uploads) old.numbers.items new.numbers.items) is_whole read kept following left Wrote)
+noted_read reach uploads was is old new is_whole None left Wrote read slice kept line same_end same f h = tt
+noted_read reach uploads was is old new is_whole (Some following) left Wrote read slice kept line same_end same f h =
+    subst (λ (u : UploadsAtEnd). ServesReadOver (session_of reach u) was is (Noted (session_of reach u) old.numbers.items new.numbers.items) is_whole read kept following left Wrote) same_end
+    (record { serves = λ whole r. h.serves whole (f.is whole (subst (λ (k : List ℕ). IsSessionLine whole read k) (sym same) r)) })

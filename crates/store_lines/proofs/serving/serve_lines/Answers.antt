@@ -10,10 +10,9 @@ use Rattle.store_lines.specs.inner.Requests.{IsFound}
 use Rattle.edge.specs.declared.outcome.Verdict.TheVariants as verdicts
 use Rattle.store_lines.specs.Owning.{session_of}
 use Rattle.store_lines.specs.Turns.{ServedAllOver, ServedSomeOver}
-use Rattle.store_lines.specs.inner.Reporting.{Notes, Owns, ServesReadOver}
+use Rattle.store_lines.specs.inner.Reporting.{Owns}
 use Rattle.store_lines.specs.declared.owning.OwnUploads.{OwnUploads}
-use Rattle.store_lines.specs.declared.owning.UploadsAtEnd.{UploadsAtEnd}
-use Rattle.store_lines.proofs.Serves.{served_read}
+use Rattle.store_lines.proofs.Serves.{noted_read}
 use Rattle.store_lines.proofs.Under.{Noted, all_read, at_cut, at_end, begun, left_read, truncated, stopped, turned, unended, unread}
 use Rattle.store_lines.proofs.serving.serve_lines.Goals as goal
 
@@ -60,9 +59,7 @@ returns-in_err-serve_line-clause-failed g c = λ is.
     let mid = g.A.Access.stands c.loop.access in
     let now = g.A.Access.stands c.serve_line.new.access in
     let kept : c.as_slice.result.now ≡ c.next_line.new.line.items = search rules in
-    let found = subst (λ (k : List ℕ). IsFound c.in_ok-read.read k c.line_of-found.result) kept c.line_of-found.ensures in
-    let line = served_read true (g.R.Read.remaining c.next_line.new.reader) (g.R.Read.remaining c.serve_line.new.reader) (WroteSome (g.W.Write.contents c.loop.writer) (g.W.Write.contents c.serve_line.new.writer)) (session_of reach c.loop.own.at_end) mid now (Notes c.loop.own c.serve_line.new.own) c.in_ok-read.read c.next_line.new.line.items c.line_of-found.result found (c.serve_line.ensures.failed cause) in
-    let served = subst (λ (uploads : UploadsAtEnd). IfSome (g.R.Read.remaining c.next_line.new.reader) (λ following. ServesReadOver (session_of reach uploads) mid now (Noted (session_of reach uploads) c.loop.own.numbers.items c.serve_line.new.own.numbers.items) true c.in_ok-read.read c.next_line.new.line.items following (g.R.Read.remaining c.serve_line.new.reader) (WroteSome (g.W.Write.contents c.loop.writer) (g.W.Write.contents c.serve_line.new.writer)))) c.loop.invariant.2 line in
+    let served = noted_read reach c.args.own.now.at_end mid now c.loop.own c.serve_line.new.own true (g.R.Read.remaining c.next_line.new.reader) (g.R.Read.remaining c.serve_line.new.reader) (WroteSome (g.W.Write.contents c.loop.writer) (g.W.Write.contents c.serve_line.new.writer)) c.in_ok-read.read c.as_slice.result.now c.next_line.new.line.items c.line_of-found.result c.loop.invariant.2 kept c.line_of-found.ensures (c.serve_line.ensures.failed cause) in
     let some : 0 < c.in_ok-read.read.count = omega arith in
     let w1 = g.W.Write.contents c.args.writer.now in
     let w2 = g.W.Write.contents c.loop.writer in
@@ -81,9 +78,7 @@ returns-then-not-branch-clause-written g c =
     let now = g.A.Access.stands c.serve_line.new.access in
     let none : c.in_ok-serve_line.field-0 ≡ false = search rules in
     let kept : c.as_slice.result.now ≡ c.next_line.new.line.items = search rules in
-    let found = subst (λ (k : List ℕ). IsFound c.in_ok-read.read k c.line_of-found.result) kept c.line_of-found.ensures in
-    let line = served_read c.in_ok-serve_line.field-0 (g.R.Read.remaining c.next_line.new.reader) (g.R.Read.remaining c.serve_line.new.reader) (Appends (g.W.Write.contents c.loop.writer) (g.W.Write.contents c.serve_line.new.writer)) (session_of reach c.loop.own.at_end) mid now (Notes c.loop.own c.serve_line.new.own) c.in_ok-read.read c.next_line.new.line.items c.line_of-found.result found c.in_ok-serve_line.ensures.served in
-    let served = subst (λ (uploads : UploadsAtEnd). IfSome (g.R.Read.remaining c.next_line.new.reader) (λ following. ServesReadOver (session_of reach uploads) mid now (Noted (session_of reach uploads) c.loop.own.numbers.items c.serve_line.new.own.numbers.items) c.in_ok-serve_line.field-0 c.in_ok-read.read c.next_line.new.line.items following (g.R.Read.remaining c.serve_line.new.reader) (Appends (g.W.Write.contents c.loop.writer) (g.W.Write.contents c.serve_line.new.writer)))) c.loop.invariant.2 line in
+    let served = noted_read reach c.args.own.now.at_end mid now c.loop.own c.serve_line.new.own c.in_ok-serve_line.field-0 (g.R.Read.remaining c.next_line.new.reader) (g.R.Read.remaining c.serve_line.new.reader) (Appends (g.W.Write.contents c.loop.writer) (g.W.Write.contents c.serve_line.new.writer)) c.in_ok-read.read c.as_slice.result.now c.next_line.new.line.items c.line_of-found.result c.loop.invariant.2 kept c.line_of-found.ensures c.in_ok-serve_line.ensures.served in
     let same = c.in_ok-serve_line.ensures.truncated none in
     let cut = truncated session (g.A.Access.stands c.args.access.now) mid now c.loop.own.numbers.items (Noted session c.loop.own.numbers.items c.serve_line.new.own.numbers.items) (g.R.Read.remaining c.args.reader.now) (g.R.Read.remaining c.loop.reader) (g.R.Read.remaining c.next_line.new.reader) (g.R.Read.remaining c.serve_line.new.reader) (g.W.Write.contents c.args.writer.now) (g.W.Write.contents c.loop.writer) (g.W.Write.contents c.serve_line.new.writer)
     c.in_ok-read.read c.next_line.new.line.items c.in_ok-serve_line.field-0 none c.loop.invariant.0 c.in_ok-read.ensures.read c.in_ok-read.ensures.rest served in
@@ -109,9 +104,7 @@ returns-then-not-branch-clause-end g c =
     let now = g.A.Access.stands c.serve_line.new.access in
     let none : c.in_ok-serve_line.field-0 ≡ false = search rules in
     let kept : c.as_slice.result.now ≡ c.next_line.new.line.items = search rules in
-    let found = subst (λ (k : List ℕ). IsFound c.in_ok-read.read k c.line_of-found.result) kept c.line_of-found.ensures in
-    let line = served_read c.in_ok-serve_line.field-0 (g.R.Read.remaining c.next_line.new.reader) (g.R.Read.remaining c.serve_line.new.reader) (Appends (g.W.Write.contents c.loop.writer) (g.W.Write.contents c.serve_line.new.writer)) (session_of reach c.loop.own.at_end) mid now (Notes c.loop.own c.serve_line.new.own) c.in_ok-read.read c.next_line.new.line.items c.line_of-found.result found c.in_ok-serve_line.ensures.served in
-    let served = subst (λ (uploads : UploadsAtEnd). IfSome (g.R.Read.remaining c.next_line.new.reader) (λ following. ServesReadOver (session_of reach uploads) mid now (Noted (session_of reach uploads) c.loop.own.numbers.items c.serve_line.new.own.numbers.items) c.in_ok-serve_line.field-0 c.in_ok-read.read c.next_line.new.line.items following (g.R.Read.remaining c.serve_line.new.reader) (Appends (g.W.Write.contents c.loop.writer) (g.W.Write.contents c.serve_line.new.writer)))) c.loop.invariant.2 line in
+    let served = noted_read reach c.args.own.now.at_end mid now c.loop.own c.serve_line.new.own c.in_ok-serve_line.field-0 (g.R.Read.remaining c.next_line.new.reader) (g.R.Read.remaining c.serve_line.new.reader) (Appends (g.W.Write.contents c.loop.writer) (g.W.Write.contents c.serve_line.new.writer)) c.in_ok-read.read c.as_slice.result.now c.next_line.new.line.items c.line_of-found.result c.loop.invariant.2 kept c.line_of-found.ensures c.in_ok-serve_line.ensures.served in
     at_cut session (g.A.Access.stands c.args.access.now) mid now c.loop.own.numbers.items (Noted session c.loop.own.numbers.items c.serve_line.new.own.numbers.items) (g.R.Read.remaining c.args.reader.now) (g.R.Read.remaining c.loop.reader) (g.R.Read.remaining c.next_line.new.reader) (g.R.Read.remaining c.serve_line.new.reader) (g.W.Write.contents c.args.writer.now) (g.W.Write.contents c.loop.writer)
     (Appends (g.W.Write.contents c.loop.writer) (g.W.Write.contents c.serve_line.new.writer)) c.in_ok-read.read c.next_line.new.line.items c.in_ok-serve_line.field-0 none c.loop.invariant.0 c.in_ok-read.ensures.read c.in_ok-read.ensures.rest served
 
@@ -123,9 +116,7 @@ loop-preserved g c =
     let now = g.A.Access.stands c.serve_line.new.access in
     let whole : c.in_ok-serve_line.field-0 ≡ true = search rules in
     let kept : c.as_slice.result.now ≡ c.next_line.new.line.items = search rules in
-    let found = subst (λ (k : List ℕ). IsFound c.in_ok-read.read k c.line_of-found.result) kept c.line_of-found.ensures in
-    let line = served_read c.in_ok-serve_line.field-0 (g.R.Read.remaining c.next_line.new.reader) (g.R.Read.remaining c.serve_line.new.reader) (Appends (g.W.Write.contents c.loop.writer) (g.W.Write.contents c.serve_line.new.writer)) (session_of reach c.loop.own.at_end) mid now (Notes c.loop.own c.serve_line.new.own) c.in_ok-read.read c.next_line.new.line.items c.line_of-found.result found c.in_ok-serve_line.ensures.served in
-    let served = subst (λ (uploads : UploadsAtEnd). IfSome (g.R.Read.remaining c.next_line.new.reader) (λ following. ServesReadOver (session_of reach uploads) mid now (Noted (session_of reach uploads) c.loop.own.numbers.items c.serve_line.new.own.numbers.items) c.in_ok-serve_line.field-0 c.in_ok-read.read c.next_line.new.line.items following (g.R.Read.remaining c.serve_line.new.reader) (Appends (g.W.Write.contents c.loop.writer) (g.W.Write.contents c.serve_line.new.writer)))) c.loop.invariant.2 line in
+    let served = noted_read reach c.args.own.now.at_end mid now c.loop.own c.serve_line.new.own c.in_ok-serve_line.field-0 (g.R.Read.remaining c.next_line.new.reader) (g.R.Read.remaining c.serve_line.new.reader) (Appends (g.W.Write.contents c.loop.writer) (g.W.Write.contents c.serve_line.new.writer)) c.in_ok-read.read c.as_slice.result.now c.next_line.new.line.items c.line_of-found.result c.loop.invariant.2 kept c.line_of-found.ensures c.in_ok-serve_line.ensures.served in
     let some : 0 < c.in_ok-read.read.count = omega arith in
     let w1 = g.W.Write.contents c.args.writer.now in
     let w2 = g.W.Write.contents c.loop.writer in
