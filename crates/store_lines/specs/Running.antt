@@ -37,8 +37,8 @@ AreTold Tells old new [] = new ≡ old
 AreTold Tells old new (bad ∷ others) = (mid : _) × Tells old bad.0 bad.1 mid × AreTold Tells mid new others
 
 -- The lines of a prefix of a script were answered in order, from the empty store, and those outside the grammar were told. The steps among
--- their turns are a run of the store, whose invariant holds after it. The other lines and the ending are like this, and this much of the
--- answers was written.
+-- their turns are a run of the store, whose invariant holds after it. `Ends` holds for the other lines and the ending of the answers, and
+-- `Wrote` for their text.
 pub record RanSome (input : List ℕ) (Told : List (ℕ × LineFault) → Type 0) (Ends : List (List ℕ) → Ending → Type 0) (Wrote : List ℕ → Type 0) : Type 0 where
   pub front : List (List ℕ)
   pub back : List (List ℕ)

@@ -191,7 +191,7 @@ abbrev pub Finishes : Session → (SessionState → Type 0) → List SessionTurn
 Finishes session is turns last = (done : SessionState) × (AreAborted session.reach last (own_of session.at_end turns) done × is done)
 
 -- Lines of a prefix of the input were answered in order, whatever was left before the session. The account is the session's own in the end,
--- with what the next line left that isn't answered. Then this follows, and this much of the answers was written.
+-- with what the next line left that isn't answered. Then this follows, and `Wrote` holds for the text of the answers.
 pub record ServedSomeOver (session : Session) (was : SessionState → Type 0) (Then : List SessionTurn → SessionState → Type 0) (input : List ℕ) (Wrote : List ℕ → Type 0) : Type 0 where
   pub turns : List SessionTurn
   pub rest : List ℕ

@@ -13,7 +13,8 @@ use Rattle.edge.specs.declared.outcome.Verdict.TheVariants as verdicts
 
 -- ---- a script
 
--- What was answered when a script's lines ended, or no more of them were answered for this cause; and how the answers end.
+-- The loop over a script's lines ended like this, and its answers with this ending. All lines were answered; or those before a failed read or
+-- before a line for which an allocation failed; or the last answer was written in part.
 abbrev pub RanUntil : Result (Unit {0}) Cause → List ℕ → (List (ℕ × LineFault) → Type 0) → Option (List ℕ) → Option (List ℕ) → Ending → Type 0
 RanUntil (Ok done) input Told old new ending = Ran input Told old new ending
 RanUntil (Err causes.CannotRead) input Told old new ending = RanSome input Told (λ back said. said ≡ ending) (Appends old new)
