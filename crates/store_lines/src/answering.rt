@@ -19,7 +19,7 @@ use std::alloc::Global;
 use std::io::Write;
 use store_core::{Entry, Refusal};
 
-/// Writes an answer of a store whose journal is `entries`, and flushes.
+/// Writes an answer, with its entries of the journal `entries` if it has any, and flushes.
 pub(crate) fn report<W: Write>(
     writer: &mut W,
     entries: &[Entry],
