@@ -1,5 +1,5 @@
 -- The requests of the lines of a script.
-use Rattle.std.specs.Prelude.{ℕ, zero, suc, ◌+◌, ◌%◌, List, [], ◌∷◌, Option, Some, None, Result, Ok, Err, if◌then◌else◌, nat_le, codes, length}
+use Rattle.std.specs.Prelude.{ℕ, zero, suc, ◌+◌, ◌%◌, List, [], ◌∷◌, ◌++◌, Option, Some, None, Result, Ok, Err, if◌then◌else◌, nat_le, codes, length, map}
 use Rattle.std.specs.List.{list_any}
 use Rattle.std.specs.Str.{bytes_eq}
 use Rattle.hex.specs.Hex.{decode_of, decode_sized}
@@ -147,22 +147,20 @@ list_command fields = do
   tenant ← number_at fields
   Some (Asks (questions.List tenant))
 
+-- the command for the fields after each of these words
+abbrev pub forms : List (List ℕ × (List ℕ → Option Request))
+forms =
+    (codes "tenant", open_tenant_command) ∷ (codes "limit", set_limit_command) ∷ (codes "begin", begin_command) ∷ (codes "open", begin_open_command)
+    ∷ (codes "fix", fix_command) ∷ (codes "seal", seal_command) ∷ (codes "sealas", seal_as_command) ∷ (codes "abort", abort_command)
+    ∷ (codes "forget", forget_command) ∷ (codes "fetch", fetch_command) ∷ (codes "usage", usage_command) ∷ (codes "list", list_command) ∷ []
+
 -- the command of a word and the fields after it
+abbrev pub command_by : List (List ℕ × (List ℕ → Option Request)) → List ℕ → List ℕ → Option Request
+command_by [] kind fields = None
+command_by (form ∷ others) kind fields = if bytes_eq kind form.0 then form.1 fields else command_by others kind fields
+
 unfoldable pub script_request_of_kind : List ℕ → List ℕ → Option Request
-script_request_of_kind kind fields =
-    if bytes_eq kind (codes "tenant") then open_tenant_command fields
-    else if bytes_eq kind (codes "limit") then set_limit_command fields
-    else if bytes_eq kind (codes "begin") then begin_command fields
-    else if bytes_eq kind (codes "open") then begin_open_command fields
-    else if bytes_eq kind (codes "fix") then fix_command fields
-    else if bytes_eq kind (codes "seal") then seal_command fields
-    else if bytes_eq kind (codes "sealas") then seal_as_command fields
-    else if bytes_eq kind (codes "abort") then abort_command fields
-    else if bytes_eq kind (codes "forget") then forget_command fields
-    else if bytes_eq kind (codes "fetch") then fetch_command fields
-    else if bytes_eq kind (codes "usage") then usage_command fields
-    else if bytes_eq kind (codes "list") then list_command fields
-    else None
+script_request_of_kind kind fields = command_by forms kind fields
 
 -- the command of a line that consists of one word
 abbrev pub word_command : List ℕ → Option Request
@@ -181,9 +179,7 @@ command_at line = split_line_at line (split_at space line)
 
 -- the first words of lines
 abbrev pub words : List (List ℕ)
-words =
-    codes "abort" ∷ codes "begin" ∷ codes "fetch" ∷ codes "fix" ∷ codes "forget" ∷ codes "journal" ∷ codes "limit" ∷ codes "list" ∷ codes "open"
-    ∷ codes "put" ∷ codes "seal" ∷ codes "sealas" ∷ codes "stat" ∷ codes "tenant" ∷ codes "usage" ∷ []
+words = map (λ (form : List ℕ × (List ℕ → Option Request)). form.0) forms ++ codes "journal" ∷ codes "put" ∷ codes "stat" ∷ []
 
 -- the first word of a line that is split after it
 abbrev pub word_of : List ℕ → Option (List ℕ × List ℕ) → List ℕ

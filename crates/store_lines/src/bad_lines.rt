@@ -52,8 +52,8 @@ impl BadLines for Untold {
 
 // The words of lines.
 const WORDS: [&[u8]; 15] = [
-    b"abort", b"begin", b"fetch", b"fix", b"forget", b"journal", b"limit", b"list", b"open",
-    b"put", b"seal", b"sealas", b"stat", b"tenant", b"usage",
+    b"tenant", b"limit", b"begin", b"open", b"fix", b"seal", b"sealas", b"abort", b"forget",
+    b"fetch", b"usage", b"list", b"journal", b"put", b"stat",
 ];
 
 /// Why a line that has no request is outside the grammar.
