@@ -100,17 +100,6 @@ def front_words(place, port, ports):
     return ["nginx", "-p", place, "-c", path, "-e", os.path.join(place, "errors")]
 
 
-def bare(length):
-    """Starts bench/bare_server.py. The function to start one."""
-
-    @contextlib.contextmanager
-    def start(_):
-        with running([sys.executable, os.path.join(TOP, "bench", "bare_server.py"), str(length)], stdout=subprocess.PIPE) as server:
-            yield int(server.stdout.readline())
-
-    return start
-
-
 @contextlib.contextmanager
 def nginx(place):
     port = free_port()

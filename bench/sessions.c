@@ -4,7 +4,6 @@
      sessions door PATH CLIENTS BYTES COUNT       b3store's door is at PATH
      sessions alone PROGRAM 1 BYTES COUNT         PROGRAM serve, started here
      sessions passed PATH CLIENTS BYTES COUNT     the socket of b3store.server is at PATH, which passes each client its session's pipes
-     sessions socket PATH CLIENTS BYTES COUNT     the same, through the socket
      sessions redis PATH CLIENTS BYTES COUNT      the socket of redis is at PATH
 
    COUNT is each client's number of objects. It prints the seconds of the puts and of the gets. With one more word QUESTIONS, one client asks so often
@@ -241,8 +240,6 @@ static void begin(struct client *c) {
         start_program(c);
     } else if (strcmp(c->kind, "passed") == 0) {
         ask_for_pipes(c);
-    } else if (strcmp(c->kind, "socket") == 0) {
-        open_socket(c);
     } else {
         open_pipes(c);
     }
@@ -336,7 +333,7 @@ static void end(struct client *c) {
 
 int main(int count, char **words) {
     if (count != 6 && count != 7) {
-        fprintf(stderr, "usage: sessions door|alone|passed|socket|redis TARGET CLIENTS BYTES COUNT [QUESTIONS]\n");
+        fprintf(stderr, "usage: sessions door|alone|passed|redis TARGET CLIENTS BYTES COUNT [QUESTIONS]\n");
         return 2;
     }
     int clients = atoi(words[3]), waits = count == 7;
