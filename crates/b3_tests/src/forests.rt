@@ -1,77 +1,7 @@
 //! Forests of parts, with a length known from the start or fixed at the end. The digests come from outside.
 
-use crate::fakes::pattern;
 use crate::forest_scripts::holds;
-use b3_core::{Mode, Runtime, Work, hash};
-use b3_forest::{Forest, Plan, Prepared};
-use std::alloc::{AllocError, Global};
-
-// Adds a part of the pattern. Returns whether it was added.
-fn add(alloc: Global, forest: &mut Forest, offset: u64, size: u64, work: &mut Work) -> bool {
-    let Ok(bytes) = pattern(alloc, offset, size) else {
-        return false;
-    };
-    let plan = forest.plan();
-    match Prepared::make(alloc, &plan, offset, bytes, work) {
-        Ok(part) => forest.add(part, work).is_ok(),
-        Err(_) => false,
-    }
-}
-
-// Adds all parts of `size` bytes, in steps of `step`. Returns whether all were added.
-fn add_all(alloc: Global, forest: &mut Forest, size: u64, step: u64, work: &mut Work) -> bool {
-    let len = forest.length();
-    let mut are_added = true;
-    for turn in 0..step {
-        for number in 0..17u64 {
-            let offset = size.wrapping_mul(number);
-            if offset < len && number.checked_rem(step) == Some(turn) {
-                are_added = add(alloc, forest, offset, size.min(len - offset), work) && are_added;
-            }
-        }
-    }
-    are_added
-}
-
-// The hash of the pattern, split into parts of that size, which come in steps of `step`.
-fn hash_of_parts(
-    alloc: Global,
-    len: u64,
-    size: u64,
-    step: u64,
-    work: &mut Work,
-) -> Option<[u8; 32]> {
-    let Ok(plan) = Plan::new(len) else {
-        return None;
-    };
-    let mut forest = Forest::new(alloc, plan);
-    let are_added = add_all(alloc, &mut forest, size, step, work);
-    match forest.finish(work) {
-        Ok(top) if are_added => Some(top.root32(work)),
-        _ => None,
-    }
-}
-
-// The hash of the pattern.
-fn hash_of_whole(alloc: Global, len: u64, work: &mut Work) -> Option<[u8; 32]> {
-    match pattern(alloc, 0, len) {
-        Ok(bytes) => Some(hash(&Mode::hash(), bytes.as_slice(), work)),
-        Err(_) => None,
-    }
-}
-
-// Whether the hash of the pattern is that of its parts, of each size and in each order. The last size makes one part.
-fn is_in_all_parts<R: AllocGlobal + Runtime>(rt: &R, len: u64) -> bool {
-    let mut work = Work::new(rt);
-    let wanted = hash_of_whole(rt.alloc(), len, &mut work);
-    let mut are_all = wanted.is_some();
-    for size in [1024u64, 2048, 3072, 5120, 17_408] {
-        for step in [1u64, 3] {
-            are_all = are_all && hash_of_parts(rt.alloc(), len, size, step, &mut work) == wanted;
-        }
-    }
-    are_all
-}
+use std::alloc::AllocError;
 
 #[test]
 fn plans_up_to_two_to_the_forty_four(rt: HostRuntime) -> Result<(), AllocError> {
@@ -307,14 +237,4 @@ fix 4096 > None true
 fix 4095 > Some(PastLast { end: 4096 }) true
 ",
     )
-}
-
-#[test]
-fn cuttings_and_orders_agree_with_the_hash(rt: HostRuntime) {
-    for len in [
-        1u64, 1023, 1024, 1025, 2049, 3073, 4096, 4097, 5121, 8191, 8192, 8193, 9217, 16_383,
-        16_384, 16_385,
-    ] {
-        assert!(rt; is_in_all_parts(&rt, len), "{len}");
-    }
 }

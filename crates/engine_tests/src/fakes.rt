@@ -186,22 +186,16 @@ impl Names for NoNames {
     }
 }
 
-/// Sources with the bytes `abc` for that name, no memory for the name `full`, and nothing for others. They count the calls, and keep what
-/// was reported to them.
+/// Sources with the bytes `abc` for each name. They count the calls.
 #[derive(Drop)]
 pub struct AbcSources {
     pub calls: u64,
-    pub reported: Vec<u8>,
     work: Work,
 }
 
 impl AbcSources {
-    pub fn new(alloc: Global, work: Work) -> AbcSources {
-        AbcSources {
-            calls: 0,
-            reported: Vec::new(alloc),
-            work,
-        }
+    pub fn new(work: Work) -> AbcSources {
+        AbcSources { calls: 0, work }
     }
 }
 
@@ -210,21 +204,12 @@ impl Sources for AbcSources {
 
     ghost reports = { λ _ _ _ _. Unit {0} };
 
-    fn root_of(&mut self, name: &[u8]) -> Result<Top, FileFault> {
+    fn root_of(&mut self, _name: &[u8]) -> Result<Top, FileFault> {
         self.calls = self.calls.saturating_add(1);
-        if name == b"full".as_slice() {
-            return Err(FileFault::NoMemory);
-        }
-        if name == b"abc".as_slice() {
-            return Ok(Top::of_input(&Mode::hash(), name, &mut self.work));
-        }
-        Err(FileFault::Failed(Reason::Missing))
+        Ok(Top::of_input(&Mode::hash(), b"abc", &mut self.work))
     }
 
-    fn report(&mut self, name: &[u8], reason: Reason) {
-        let _ = self.reported.extend_from_slice(name);
-        let _ = self.reported.extend_from_slice(reason.text().as_bytes());
-    }
+    fn report(&mut self, _name: &[u8], _reason: Reason) {}
 }
 
 /// Sources without files. They record the calls: for each hint its names, each after a space, and a semicolon; for each lookup the name and

@@ -1,13 +1,12 @@
 //! Hand-overs, by one thread and by several.
 
-ghost use Rattle.std.specs.Prelude.{◌≡◌, ◌<◌, All, IfSome, vec_len};
+ghost use Rattle.std.specs.Prelude.{◌≡◌, All, vec_len};
 ghost use Rattle.store_board.specs.Passes.{IsGiverOf, IsTakerOf};
 
 use crate::parts::part_at;
 use b3_core::{Runtime, Work};
 use b3_forest::{Plan, Prepared};
 use std::alloc::Global;
-use std::collections::VecDeque;
 use std::process::Abort;
 use std::sync::{Mutex, Wait};
 use std::thread;
@@ -45,116 +44,6 @@ fn given<R: Wait + AllocGlobal + Runtime + Abort>(
     match hand_over.give(rt, pass, part) {
         Ok(()) => None,
         Err(part) => Some(part.offset()),
-    }
-}
-
-// Gives the part `number`, if there is such a giver, and compares the result with that of a list with the same capacity.
-fn give_beside<R: Wait + AllocGlobal + Runtime + Abort>(
-    rt: &R,
-    hand_over: &HandOver<Unasked>,
-    pass: &mut Option<GivePass>,
-    giver: u64,
-    number: u64,
-    list: &mut VecDeque<(u64, u64)>,
-    capacity: usize,
-)
-    requires { IfSome pass.old (λ p. IsGiverOf hand_over.now p) }
-    ensures { IfSome pass.new (λ p. IsGiverOf hand_over.now p) }
-{
-    let Some(pass) = pass else {
-        return;
-    };
-    let offset = number.wrapping_mul(1024);
-    let has_room = list.len() < capacity;
-    let back = given(rt, hand_over, pass, number);
-    assert!(rt; back == if has_room { None } else { Some(offset) });
-    if has_room {
-        list.push_back((giver, offset)).expect(rt, "memory");
-    }
-}
-
-// Gives and takes at random, on one thread, compared with a list with the same capacity.
-fn give_and_take<R: Wait + AllocGlobal + Runtime + Abort>(
-    rt: &R,
-    hand_over: &HandOver<Unasked>,
-    capacity: usize,
-    givers: u64,
-    first: &mut Option<GivePass>,
-    second: &mut Option<GivePass>,
-    third: &mut Option<GivePass>,
-    taker: &mut TakePass,
-)
-    requires first { IfSome first.old (λ p. IsGiverOf hand_over.now p) }
-    requires second { IfSome second.old (λ p. IsGiverOf hand_over.now p) }
-    requires third { IfSome third.old (λ p. IsGiverOf hand_over.now p) }
-    requires taker { IsTakerOf hand_over.now taker.old }
-    requires some { 0 < givers }
-{
-    let mut list = VecDeque::new(rt.alloc());
-    let mut random = 1u64;
-    for number in 0..STEPS {
-        random = random
-            .wrapping_mul(6364136223846793005)
-            .wrapping_add(1442695040888963407);
-        let giver = if (random >> 33) % 2 == 0 {
-            (random >> 34) % givers
-        } else {
-            3
-        };
-        match giver {
-            0 => give_beside(rt, hand_over, first, 0, number, &mut list, capacity),
-            1 => give_beside(rt, hand_over, second, 1, number, &mut list, capacity),
-            2 => give_beside(rt, hand_over, third, 2, number, &mut list, capacity),
-            _ => assert!(rt; taken(rt, hand_over, taker) == list.pop_front()),
-        }
-    }
-}
-
-// The last of the givers' passes, if there are more than `count`.
-fn pass_above(
-    hand_over: &HandOver<Unasked>,
-    passes: &mut Vec<GivePass>,
-    count: usize,
-) -> Option<GivePass>
-    requires { All (λ p. IsGiverOf hand_over.now p) passes.old.items }
-    ensures rest { All (λ p. IsGiverOf hand_over.now p) passes.new.items }
-    ensures pass { IfSome result (λ p. IsGiverOf hand_over.now p) }
-{
-    if passes.len() > count {
-        return passes.pop();
-    }
-    None
-}
-
-const STEPS: u64 = 500;
-
-// A hand-over with this capacity and number of givers, compared with a list.
-fn moves_as_a_list<R: Wait + AllocGlobal + Runtime + Abort>(rt: &R, capacity: usize, givers: u64)
-    requires { 0 < givers }
-{
-    let hand_over = HandOver::<Unasked>::new(rt.alloc(), capacity, givers);
-    let (hand_over, mut passes, mut taker) = hand_over.expect(rt, "a hand-over");
-    let mut third = pass_above(&hand_over, &mut passes, 2);
-    let mut second = pass_above(&hand_over, &mut passes, 1);
-    let mut first = pass_above(&hand_over, &mut passes, 0);
-    give_and_take(
-        rt,
-        &hand_over,
-        capacity,
-        givers,
-        &mut first,
-        &mut second,
-        &mut third,
-        &mut taker,
-    )
-}
-
-#[test]
-fn one_thread_gives_and_takes_as_with_a_list(rt: HostRuntime) {
-    for capacity in 1..6usize {
-        for givers in 1..4u64 {
-            moves_as_a_list(&rt, capacity, givers);
-        }
     }
 }
 
