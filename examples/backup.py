@@ -9,19 +9,22 @@
 
 A SNAPSHOT is an address, its first digits, or `latest`. A PATTERN is for names, as `*.o`, or, with a slash, for paths below FOLDER, as `build/*`.
 
-A repository is a folder. Its files NUMBER.log are logs that redo a store (docs/PROTOCOL.md): `b3store serve < 000001.log` files their objects. An object is a part
-of a file, of 1 MiB, the list of what is in a folder, or a snapshot; the last two are JSON. The file `snapshots` has the addresses of the snapshots. A file that has
-changed adds the parts that are new: all of them, if bytes are put in front of it. A part that is there already is compared, and added again if that is damaged.
+A repository is a folder. Its files NUMBER.log are logs that redo a store (docs/PROTOCOL.md): `b3store serve < 000001.log` files their objects.
+An object is a part of a file, of 1 MiB, the list of what is in a folder, or a snapshot; the last two are JSON. The file `snapshots` has the
+addresses of the snapshots. A file that has changed adds the parts that are new: all of them, if bytes are put in front of it. A part that is
+there already is compared, and added again if that is damaged.
 
-Files, folders, links and hard links are saved, with mode, owner, group and time. Parts of zeros become holes. Extended attributes are not saved, which is reported. If
-there is an access list, the mode is saved without the bits of the group and of others, and the status is 1. Pipes, devices and sockets are reported and left out. A
-file isn't read again if its number, length and times are those of the last snapshot of FOLDER; with --all it is.
+Files, folders, links and hard links are saved, with mode, owner, group and time. Parts of zeros become holes. Extended attributes are not saved,
+which is reported. If there is an access list, the mode is saved without the bits of the group and of others, and the status is 1. Pipes, devices
+and sockets are reported and left out. A file isn't read again if its number, length and times are those of the last snapshot of FOLDER; with
+--all it is.
 
-`restore` writes each file under another name first, leaves alone what is there already, and reports what differs: after an interrupt it can be run again. No link
-in FOLDER is followed. A new folder has the mode 1700 until it is complete.
+`restore` writes each file under another name first, leaves alone what was there before, and reports what differs: after an interrupt it can be
+run again. No link in FOLDER is followed. A new folder has the mode 1700 until it is complete.
 
-While a save or a forget uses a repository, no other command does. A save that is killed changes no snapshot. `check` gives each log to the program b3store, which
-needs as much memory: 64 MiB, or one object. Each command takes about 300 bytes of memory for each object.
+While a save or a forget uses a repository, no other command does. A save that is killed changes no snapshot. `check` gives each log to the
+program b3store, which needs as much memory: 64 MiB, or one object. Each command takes about 300 bytes of memory for each object, and a save
+about 500 for each file.
 """
 import os
 import sys
@@ -35,7 +38,6 @@ if __name__ == "__main__":
 import argparse
 import collections
 import contextlib
-import fcntl
 import fnmatch
 import itertools
 import json
@@ -46,7 +48,7 @@ import time
 
 from b3store import MAX_LIMIT, Store, StoreError
 from b3store.console import count_text, error_text, finish, one_line
-from b3store.files import create_anew, opener_in
+from b3store.files import create_anew, lock_folder, opener_in
 
 try:
     from b3store.hashing import blake3
@@ -61,20 +63,12 @@ CLOCK_STEP = 10**9
 """For so many nanoseconds after a change, another one may leave a file's time as it is."""
 
 
-class Fault(StoreError):
-    """Why a command can't go on, or an object can't be used."""
-
-
 class Repository:
     """The logs and snapshots of a folder, which is locked until the process ends."""
 
-    def __init__(self, path, lock):
-        """Opens a repository, and reads where its objects are. Raises OSError, and Fault if another command has it locked."""
-        self.path, self.folder, self.status = path, os.open(path, os.O_RDONLY | os.O_DIRECTORY), 0
-        try:
-            fcntl.flock(self.folder, lock | fcntl.LOCK_NB)
-        except BlockingIOError:
-            raise Fault(f"{path} is in use by another command") from None
+    def __init__(self, path, is_shared=False):
+        """Opens a repository, and reads where its objects are. Raises OSError, and FolderInUse if another command has it locked."""
+        self.path, self.folder, self.status = path, lock_folder(path, is_shared=is_shared), 0
         self.logs, self.places = {}, {}
         """The length of each log; and the log, the offset and the length of each object."""
         self.store, self.new, self.kept = None, [], set()
@@ -109,28 +103,28 @@ class Repository:
         """The address of the snapshot that a word of the command line names."""
         found = self.snapshots[-1:] if word == "latest" else sorted({address for address in self.snapshots if address.startswith(word)})
         if len(found) != 1:
-            raise Fault(f"{self.path} has {'several snapshots' if found else 'no snapshot'} {word}")
+            raise StoreError(f"{self.path} has {'several snapshots' if found else 'no snapshot'} {word}")
         return found[0]
 
     def read(self, address):
-        """The content of an object. Raises Fault if the repository doesn't have it any more."""
+        """The content of an object. Raises StoreError if the repository doesn't have it any more."""
         if address not in self.places:
-            raise Fault(f"object {address} is missing")
+            raise StoreError(f"object {address} is missing")
         name, offset, length = self.places[address]
         with opened(name, folder=self.folder) as file:
             file.seek(offset)
             content = file.read(length)
         if blake3(content).hexdigest() != address:
-            raise Fault(f"object {address} in {name} is damaged")
+            raise StoreError(f"object {address} in {name} is damaged")
         return content
 
     def value(self, address, is_right):
-        """The value of an object in JSON. Raises Fault if it isn't what a save has made."""
+        """The value of an object in JSON. Raises StoreError if it isn't what a save has made."""
         with contextlib.suppress(LookupError, TypeError, ValueError, RecursionError):
             value = json.loads(self.read(address))
             if is_right(value):
                 return value
-        raise Fault(f"object {address} is no list or snapshot")
+        raise StoreError(f"object {address} is no list or snapshot")
 
     def snapshot(self, address):
         """The value of a snapshot: its time, the path of the folder, and the entry of the folder."""
@@ -160,7 +154,7 @@ class Repository:
         self.kept.add(address)
         try:
             self.read(address)
-        except Fault:
+        except StoreError:
             if self.store is None:
                 self.store = Store()
                 self.store.tenant(MAX_LIMIT)
@@ -225,7 +219,7 @@ def opened(name, mode="rb", folder=None):
 def state_of(file):
     """What another content of an open file would change, if it isn't written too soon after this one."""
     status = os.fstat(file.fileno())
-    return [status.st_ino, status.st_ctime_ns, status.st_mtime_ns, status.st_size]
+    return status.st_ino, status.st_ctime_ns, status.st_mtime_ns, status.st_size
 
 
 def parts_of(file, size):
@@ -237,20 +231,20 @@ class Backup(Repository):
     """A repository, and a folder that is saved or restored by functions of this class, which work in the current folder."""
 
     def __init__(self, options):
-        super().__init__(options.repository, fcntl.LOCK_EX if options.work in (Backup.save, Backup.forget) else fcntl.LOCK_SH)
-        self.options, self.start, self.counts, self.unsaved = options, time.time_ns(), collections.Counter(), []
-        """The number of entries of each kind that were saved, and the paths with attributes that weren't."""
+        super().__init__(options.repository, is_shared=options.work not in (Backup.save, Backup.forget))
+        self.options, self.start, self.known, self.counts, self.unsaved = options, time.time_ns(), {}, collections.Counter(), []
+        """The parts of files, by their states, in the last snapshot; how many entries of each kind were saved; and the paths with attributes that weren't."""
         self.top, self.foreign, self.linked = None, 0, {}
         """The descriptor of the folder to restore into; how many owners couldn't be set; and the path and status of the first name of each file that has several."""
 
     def save(self):
-        place, known = os.path.abspath(self.options.folder), {}
-        for address in self.snapshots:
-            with contextlib.suppress(Fault):
-                snapshot = self.snapshot(address)
-                known = snapshot["top"] if snapshot["path"] == place else known
+        place = os.path.abspath(self.options.folder)
+        for address in reversed(self.snapshots):
+            with contextlib.suppress(StoreError, TypeError):
+                if not self.known and self.snapshot(address)["path"] == place and not self.options.all:
+                    self.known.update((tuple(entry["state"]), entry["parts"]) for _, entry in self.paths(address) if "state" in entry)
         with inside(self.options.folder, 0) as number:
-            top = {**self.facts("top", "folder", number, "."), "list": self.save_list("", known)}
+            top = {**self.facts("top", "folder", number, "."), "list": self.save_list("")}
         address = self.keep_value({"time": time.time(), "path": place, "top": top})
         self.set_snapshots([*self.snapshots, address])
         if self.unsaved:
@@ -258,24 +252,22 @@ class Backup(Repository):
         print(", ".join(count_text(self.counts[kind], kind) for kind in KINDS.values()))
         print(f"{count_text(len(self.new), 'new object')}, {count_text(sum(self.new), 'byte')}\nsnapshot {address}")
 
-    def save_list(self, path, known):
-        """Keeps the list of what is in the current folder, and returns its address. `known` is the folder's entry in the last snapshot."""
+    def save_list(self, path):
+        """Keeps the list of what is in the current folder, and returns its address."""
         if path.count("/") > MAX_DEPTH:
             raise OSError("the folders are nested too deeply")
-        before, found = {}, []
-        with contextlib.suppress(Fault, LookupError):
-            before = {entry["name"]: entry for entry in self.entries(known)}
+        found = []
         for name in sorted(os.listdir(".")):
             below = os.path.join(path, name)
             if not any(fnmatch.fnmatchcase(below if "/" in pattern else name, pattern) for pattern in self.options.exclude):
                 try:
-                    found += self.save_entry(name, below, before.get(name, {}))
+                    found += self.save_entry(name, below)
                 except OSError as error:
                     self.report(f"left out: {below}: {error_text(error)}")
         self.counts.update(entry["kind"] for entry in found)
         return self.keep_value(found)
 
-    def save_entry(self, name, path, known):
+    def save_entry(self, name, path):
         """The entry of a name in the current folder, in a list; or an empty list for what isn't saved. Raises OSError."""
         status = os.lstat(name)
         kind = KINDS.get(stat.S_IFMT(status.st_mode))
@@ -286,9 +278,9 @@ class Backup(Repository):
             return [{**self.facts(name, kind, name, path), "target": os.readlink(name)}]
         if kind == "folder":
             with inside(name) as number:
-                return [{**self.facts(name, kind, number, path), "list": self.save_list(path, known)}]
+                return [{**self.facts(name, kind, number, path), "list": self.save_list(path)}]
         with opened(name) as file:
-            return [{**self.facts(name, kind, file.fileno(), path), **self.save_parts(file, path, known)}]
+            return [{**self.facts(name, kind, file.fileno(), path), **self.save_parts(file, path)}]
 
     def facts(self, name, kind, place, path):
         """The fields that all entries have, of what is open, or of a link. Notes attributes that aren't saved. Without its access list, the mode may give no one
@@ -304,12 +296,12 @@ class Backup(Repository):
             mode &= ~0o77
         return {"name": name, "kind": kind, "mode": mode, "uid": status.st_uid, "gid": status.st_gid, "mtime": status.st_mtime_ns, "size": status.st_size}
 
-    def save_parts(self, file, path, known):
+    def save_parts(self, file, path):
         """Keeps the content of an open file. Returns the fields that say what it is."""
         status, state = os.fstat(file.fileno()), state_of(file)
         fields = {"links": f"{status.st_dev}:{status.st_ino}"} if status.st_nlink > 1 else {}
-        if known.get("state") == state and set(known["parts"]) <= self.places.keys() and not self.options.all:
-            return {**fields, "state": state, "parts": known["parts"]}
+        if state in self.known and self.places.keys() >= set(self.known[state]):
+            return {**fields, "state": state, "parts": self.known[state]}
         fields.update(parts=[], size=0)
         for part in parts_of(file, status.st_size):
             fields["parts"].append(self.keep(part))
@@ -339,7 +331,7 @@ class Backup(Repository):
             below = os.path.join(path, entry["name"])
             try:
                 self.restore_entry(entry, below, wanted[1:])
-            except (OSError, Fault, LookupError, ArithmeticError, RecursionError, TypeError, ValueError) as error:
+            except (OSError, StoreError, LookupError, ArithmeticError, RecursionError, TypeError, ValueError) as error:
                 self.report(f"not restored: {below}: {error_text(error)}")
         status = os.fstat(number)
         # a folder that was there keeps its own mode, owner and time
@@ -347,7 +339,7 @@ class Backup(Repository):
             self.set_facts(number, folder)
 
     def restore_entry(self, entry, path, wanted):
-        """Restores an entry into the current folder, unless it is there. Raises OSError, Fault, and what values that no save has made raise."""
+        """Restores an entry into the current folder, unless it is there. Raises OSError, StoreError, and what values that no save has made raise."""
         name = entry["name"]
         if entry["kind"] == "folder":
             with contextlib.suppress(FileExistsError):
@@ -396,7 +388,7 @@ class Backup(Repository):
                 else:
                     file.seek(len(content), os.SEEK_CUR)
             if file.tell() != entry["size"]:
-                raise Fault(f"its parts don't have {count_text(entry['size'], 'byte')}")
+                raise StoreError(f"its parts don't have {count_text(entry['size'], 'byte')}")
             file.truncate()
             self.set_facts(file.fileno(), entry)
 
@@ -421,7 +413,7 @@ class Backup(Repository):
             try:
                 value = self.snapshot(address)
                 print(one_line(f"{address}  {time.strftime('%Y-%m-%d %H:%M:%S', time.gmtime(value['time']))}  {value['path']}"))
-            except Fault as fault:
+            except StoreError as fault:
                 self.report(f"{address}  {fault}")
 
     def check(self):
@@ -440,7 +432,7 @@ class Backup(Repository):
                 for path, entry in self.paths(address, whole):
                     lists.add(entry.get("list"))
                     faults += [path] if not set(entry.get("parts", ())) <= self.places.keys() else []
-            except Fault as fault:
+            except StoreError as fault:
                 faults.append(f"all: {fault}")
             for fault in faults:
                 self.report(f"snapshot {address[:8]} can't restore {fault}")
@@ -450,7 +442,7 @@ class Backup(Repository):
 
     def forget(self):
         if self.status:
-            raise Fault("nothing is removed from a repository that is damaged")
+            raise StoreError("nothing is removed from a repository that is damaged")
         removed, before = {self.find(word) for word in self.options.snapshot}, sum(self.logs.values())
         kept = [address for address in self.snapshots if address not in removed]
         needed = {*kept}

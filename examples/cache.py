@@ -28,6 +28,8 @@ import argparse
 import collections
 import contextlib
 import ctypes
+import email.utils
+import functools
 import http.server
 import ipaddress
 import queue
@@ -50,53 +52,47 @@ from cache_content import Cache, Declined
 METRICS, HEALTH = "/metrics", "/healthz"
 """The paths that are no keys."""
 MAX_KEY_LEN = 1024
-MAX_CONNECTIONS, MAX_BODIES, OTHER_FILES = 512, 64, 100
-"""How many connections are open, and how many bodies are read, at a time; and how many descriptors there are for the bodies and all else."""
-SECONDS_OF_REQUEST, MIN_RATE = 60, 1 << 14
-SECONDS_TO_TURN, SECONDS_TO_LEAVE, SECONDS_BETWEEN_LOOKS = 1, 5, 0.5
-"""How long a body waits for its turn; how long a refused client may go on to send, so that it receives the answer; and how often late connections are closed."""
-SHORT, PIECE, STACK = 1 << 20, 1 << 18, 1 << 19
+MAX_CONNECTIONS, OTHER_FILES = 450, 100
+"""How many connections are open at a time, with a file for the body of each; and how many descriptors there are for all else."""
+SECONDS_OF_REQUEST, MIN_RATE, SECONDS_TO_LEAVE = 60, 1 << 14, 5
+"""The last is how long a refused client may go on to send, so that it receives the answer."""
+SHORT, PIECE, STACK = 1 << 18, 1 << 18, 1 << 19
 """A body that is longer than the first is written to a file without a name in FOLDER as it arrives. Content is read and written in such pieces."""
-MAX_LINE, MAX_TRAILERS, NEWLINES = 1 << 12, 100, (b"\r\n", b"\n")
+MAX_LINE = 1 << 12
 NUMBER, PORT = re.compile("[0-9]{1,19}"), re.compile(":[0-9]*$")
 RANGE = re.compile("bytes=([0-9]{0,19})-([0-9]{0,19})")
 CHUNK = re.compile(rb"([0-9a-fA-F]{1,15})[ \t]*(?:;[^\n]*)?\r?\n")
 M_ARENA_MAX = -8
+report = functools.partial(console.report, name="cache")
 EPILOG = "exit status: 0 after a signal; 1 the server can't start, or can't write its last changes to FOLDER; 2 usage error"
 
 
 class Handler(http.server.BaseHTTPRequestHandler):
     """One connection."""
 
-    protocol_version, default_request_version, server_version, sys_version = "HTTP/1.1", "HTTP/1.0", "b3store-cache", ""
+    protocol_version, default_request_version = "HTTP/1.1", "HTTP/1.0"
     disable_nagle_algorithm, wbufsize = True, 1 << 16
     """The head of an answer and short content are sent together."""
     has_body = False
     """Whether the client may still be sending a body."""
 
     def handle_one_request(self):
+        """Answers a request by the method of its name, or by what that raises."""
         self.server.wait_for(self.connection)
-        super().handle_one_request()
-
-    def parse_request(self):
-        self.server.idle.pop(self.connection, None)
-        self.has_body = True
-        return super().parse_request() and self.run(self.check_head)
-
-    def run(self, work):
-        """Calls a method that answers a request, or raises why not. Returns whether it has answered."""
         try:
-            work()
-            return True
+            super().handle_one_request()
         except Declined as fault:
             self.answer(*fault.args)
         except (Refused, MemoryError) as fault:
             self.server.cache.free_memory()
             self.answer(503, str(fault) or "out of memory")
-        return False
 
-    def check_head(self):
+    def parse_request(self):
         """Refuses a head that isn't clear, and finds the length of the body, which is None if it comes in chunks."""
+        self.server.idle.pop(self.connection, None)
+        self.has_body = True
+        if not super().parse_request():
+            return False
         lengths, codings = (self.headers.get_all(name, []) for name in ("Content-Length", "Transfer-Encoding"))
         # http.server takes other bytes for spaces too
         words = self.requestline.split(" ")
@@ -111,6 +107,7 @@ class Handler(http.server.BaseHTTPRequestHandler):
         self.has_body = bool(codings or self.length)
         # no bytes that a method doesn't read are taken for a request, nor is what follows chunks that a proxy of HTTP/1.0 doesn't know
         self.close_connection |= self.has_body and self.command != "PUT" or self.request_version == "HTTP/1.0"
+        return True
 
     def handle_expect_100(self):
         # only a body that will be read is asked for
@@ -122,10 +119,13 @@ class Handler(http.server.BaseHTTPRequestHandler):
         self.head(status, {"Content-Type": content_type, **({"Retry-After": "1"} if status == 503 else {})}, len(content))
         if self.command != "HEAD":
             self.wfile.write(content)
+        self.wfile.flush()
 
     def head(self, status, headers, length):
-        """Sends the head of an answer."""
-        self.send_response(status)
+        """Counts an answer, and sends its head."""
+        self.server.count((self.command if hasattr(self, f"do_{self.command}") else "other", int(status)))
+        self.send_response_only(status)
+        self.send_header("Date", date_text(int(time.time())))
         if status not in (204, 304):
             headers["Content-Length"] = str(length)
         if self.close_connection:
@@ -139,9 +139,6 @@ class Handler(http.server.BaseHTTPRequestHandler):
         self.close_connection = True
         self.answer(code, message or "")
 
-    def log_request(self, code="-", size="-"):
-        self.server.count((self.command if hasattr(self, f"do_{self.command}") else "other", int(code)))
-
     def finish(self):
         """Sends what is left of an answer, and drops what a refused client goes on to send: otherwise the system would drop the answer."""
         super().finish()
@@ -153,11 +150,6 @@ class Handler(http.server.BaseHTTPRequestHandler):
                     pass
 
     def do_GET(self):
-        self.run(self.give)
-
-    do_HEAD = do_GET
-
-    def give(self):
         cache = self.server.cache
         if self.path == METRICS:
             return self.answer(200, self.server.metrics(), "text/plain; version=0.0.4; charset=utf-8")
@@ -178,6 +170,8 @@ class Handler(http.server.BaseHTTPRequestHandler):
             else:
                 headers["Content-Range"] = f"bytes {wanted.start}-{wanted.stop - 1}/{entry.length}"
                 self.give_range(entry, wanted, 206, headers)
+
+    do_HEAD = do_GET
 
     def wanted_range(self, tag, length):
         """The range that the request wants of content of some length; None for all, also if it wants several."""
@@ -209,9 +203,6 @@ class Handler(http.server.BaseHTTPRequestHandler):
         self.server.deadlines[self.connection] += count / MIN_RATE
 
     def do_DELETE(self):
-        self.run(self.delete)
-
-    def delete(self):
         self.check_change()
         if not self.server.cache.delete(self.path):
             raise Declined(404, "no such key")
@@ -227,28 +218,20 @@ class Handler(http.server.BaseHTTPRequestHandler):
             raise Declined(501, "ranges and conditions are for GET alone")
 
     def do_PUT(self):
-        self.run(self.store)
-
-    def store(self):
         self.check_change()
         if self.length is None and not self.has_body:
             raise Declined(411, "a body needs a length, or chunks")
         self.check_length(self.length or 0)
         self.server.cache.check()
-        if not self.server.bodies.acquire(timeout=SECONDS_TO_TURN):
-            raise Declined(503, "too many bodies arrive")
-        try:
-            if self.headers.get("Expect", "").lower() == "100-continue":
-                self.wfile.write(b"HTTP/1.1 100 Continue\r\n\r\n")
-                self.wfile.flush()
-            with tempfile.SpooledTemporaryFile(SHORT, dir=self.server.cache.folder) as body:
-                for count in self.pieces():
-                    self.check_length(body.tell() + count)
-                    self.copy(count, body)
-                self.has_body = False
-                self.server.cache.put(self.path, body, body.tell())
-        finally:
-            self.server.bodies.release()
+        if self.headers.get("Expect", "").lower() == "100-continue":
+            self.wfile.write(b"HTTP/1.1 100 Continue\r\n\r\n")
+            self.wfile.flush()
+        with tempfile.SpooledTemporaryFile(SHORT, dir=self.server.cache.folder) as body:
+            for count in self.pieces():
+                self.check_length(body.tell() + count)
+                self.copy(count, body)
+            self.has_body = False
+            self.server.cache.put(self.path, body, body.tell())
         self.answer(201)
 
     def check_length(self, length):
@@ -259,18 +242,13 @@ class Handler(http.server.BaseHTTPRequestHandler):
         """Yields the length of each piece of the body, which has to be read before the next one: of each chunk, or of all."""
         if self.length is not None:
             yield self.length
-            return
-        while True:
+        count = self.length is None
+        while count:
             found = CHUNK.fullmatch(self.rfile.readline(MAX_LINE))
-            if not found:
-                raise Declined(400, "malformed chunk")
-            if int(found[1], 16) == 0:
-                break
-            yield int(found[1], 16)
-            if self.rfile.readline(3) not in NEWLINES:
-                raise Declined(400, "malformed chunk")
-        if not any(self.rfile.readline(MAX_LINE) in NEWLINES for _ in range(MAX_TRAILERS)):
-            raise Declined(400, "malformed trailer")
+            count = int(found[1], 16) if found else 0
+            yield count
+            if not found or self.rfile.readline(3) not in (b"\r\n", b"\n"):
+                raise Declined(400, "malformed chunk, or a trailer")
 
     def copy(self, count, file):
         """Writes bytes of the body to a file."""
@@ -295,11 +273,11 @@ class Server(socketserver.ThreadingTCPServer):
 
     def __init__(self, options, cache):
         self.cache, self.max_body, self.hosts = cache, min(options.max_body, options.limit), {"localhost", *map(str.lower, options.host)}
-        self.max_connections = max(1, min(MAX_CONNECTIONS, resource.getrlimit(resource.RLIMIT_NOFILE)[0] - OTHER_FILES))
-        self.bodies, self.counts, self.lock = threading.BoundedSemaphore(MAX_BODIES), collections.Counter(), threading.Lock()
+        self.max_connections = max(1, min(MAX_CONNECTIONS, (resource.getrlimit(resource.RLIMIT_NOFILE)[0] - OTHER_FILES) // 2))
+        self.counts, self.lock = collections.Counter(), threading.Lock()
         self.connections, self.free = queue.SimpleQueue(), threading.Semaphore(0)
         """The connections that threads take, and how many threads wait for one."""
-        self.deadlines, self.idle, self.next_look = {}, collections.OrderedDict(), 0.0
+        self.deadlines, self.idle = {}, collections.OrderedDict()
         """When each connection must have sent its request and received the answer; and those that wait for a request, the longest waiting first."""
         self.address_family, _, _, _, address = socket.getaddrinfo(options.host[0], options.port, type=socket.SOCK_STREAM)[0]
         super().__init__(address, Handler)
@@ -307,9 +285,7 @@ class Server(socketserver.ThreadingTCPServer):
     def is_allowed(self, hosts):
         """Whether a request may have these headers Host."""
         name = PORT.sub("", hosts[0].lower())
-        with contextlib.suppress(ValueError):
-            return len(hosts) == 1 and (name in self.hosts or bool(ipaddress.ip_address(name.strip("[]"))))
-        return False
+        return len(hosts) == 1 and (name in self.hosts or is_address(name.strip("[]")))
 
     def wait_for(self, connection):
         """Notes that a connection waits for a request."""
@@ -334,13 +310,11 @@ class Server(socketserver.ThreadingTCPServer):
             self.free.release()
 
     def service_actions(self):
-        """Closes connections that are late: first for reading, so that the request can be answered."""
+        """Closes connections that are late, at least each half second: first for reading, so that the request can be answered."""
         now = time.monotonic()
-        if now >= self.next_look:
-            self.next_look = now + SECONDS_BETWEEN_LOOKS
-            for connection, deadline in list(self.deadlines.items()):
-                if now > deadline:
-                    close(connection, socket.SHUT_RD if now < deadline + SECONDS_TO_LEAVE else socket.SHUT_RDWR)
+        for connection, deadline in list(self.deadlines.items()):
+            if now > deadline:
+                close(connection, socket.SHUT_RD if now < deadline + SECONDS_TO_LEAVE else socket.SHUT_RDWR)
 
     def shutdown_request(self, request):
         self.idle.pop(request, None)
@@ -377,8 +351,16 @@ def close(connection, how):
         connection.shutdown(how)
 
 
-def report(text):
-    console.report(text, "cache")
+@functools.lru_cache(MAX_CONNECTIONS)
+def is_address(name):
+    with contextlib.suppress(ValueError):
+        return bool(ipaddress.ip_address(name))
+    return False
+
+
+@functools.lru_cache(1)
+def date_text(seconds):
+    return email.utils.formatdate(seconds, usegmt=True)
 
 
 def serve(options, ending):

@@ -90,13 +90,8 @@ class Cache:
 
     def read(self, entry, room, offset):
         """Fills a writable buffer with bytes of an entry that is being read. Raises Refused, for S14."""
-        while True:
-            store = self.store
-            try:
-                return store.fetch_into(CONTENT, entry.address, room, offset)
-            except (Refused, ValueError):
-                if self.is_current(store):
-                    raise
+        with self.lock:
+            return self.store.fetch_into(CONTENT, entry.address, room, offset)
 
     def put(self, key, file, length):
         """Stores the content of a file under a key. The least recently used keys are evicted if there is no room. Raises Declined."""
@@ -108,9 +103,10 @@ class Cache:
             except (Refused, ValueError) as fault:
                 number = getattr(fault, "number", None)
                 has_room = number == "S6" and self.evict(length - fault.value) or number == "S14" and self.free_memory()
-                if not has_room and self.is_current(store):
-                    raise Declined(507, str(fault)) from None
-                continue
+                with self.lock:
+                    if has_room or store is not self.store:
+                        continue
+                raise Declined(507, str(fault)) from None
             with self.lock:
                 self.check()
                 # the content may have moved to a new store, or the object was forgotten with another key that led to it
@@ -134,11 +130,6 @@ class Cache:
         """Raises Declined if nothing can be changed now."""
         if self.fault:
             raise Declined(503, self.fault)
-
-    def is_current(self, store):
-        """Whether a store is still the cache's, once it isn't being replaced."""
-        with self.lock:
-            return store is self.store
 
     def evict(self, missing):
         """Drops the least recently used keys, until that has freed so many bytes. Returns whether it has freed any."""

@@ -385,7 +385,7 @@ def unusable(folder):
         yield folder, f"{folder} belongs to another user: name a folder of your own"
         os.chown(folder, 0, -1)
     locked = lock_folder(folder)
-    yield folder, f"{folder} is in use by another server"
+    yield folder, f"{folder} is in use by another process"
     os.close(locked)
 
 

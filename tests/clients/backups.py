@@ -265,7 +265,7 @@ def hostile_repositories():
         for change in [*changes, *numbers, {"links": []}, {"size": 4}, {"size": 2}, {"parts": [1 << 62], "size": 1 << 62}, {}]:
             repository = os.path.join(place, "repository")
             os.mkdir(repository)
-            kept = backup.Repository(repository, fcntl.LOCK_EX)
+            kept = backup.Repository(repository)
             entry = {**right, "parts": [kept.keep(b"abc")], **change}
             top = {**right, "name": "top", "kind": "folder", "list": kept.keep(json.dumps([entry]).encode())}
             address = kept.keep(json.dumps({"time": 1.5, "path": "/x", "top": top}).encode())
@@ -488,7 +488,7 @@ def locks():
             fcntl.flock(holding, lock)
             got = run("save", repository, folder), run("restore", repository, "latest", restored), run_check(repository)
             os.close(holding)
-            check((tuple(each[0] for each in got), statuses), (got[0][2], [f"b3store: {repository} is in use by another command"]))
+            check((tuple(each[0] for each in got), statuses), (got[0][2], [f"b3store: {repository} is in use by another process"]))
 
 
 def wrong_words():

@@ -239,6 +239,7 @@ def answers_while_it_loads():
         for is_ended in True, False:
             with Cache(folder, server=server, loads=False) as cache:
                 check((cache.get("/a"), 404), (cache.put("/a", b"x"), 503), (cache.ask("DELETE", "/a")[0], 503), (cache.ask("GET", "/healthz")[0], 503))
+                check((cache.answer("PUT", "/a", b"x")[2]["Retry-After"], "1"))
                 if is_ended:
                     check((cache.stop()[0], 0), (contents(folder) == before, True))
                     continue

@@ -124,7 +124,7 @@ def folders_that_are_refused():
         locked = lock_folder(folder)
         told = f"b3store.server: cannot listen on {folder}/socket: its folder is in use by another server or a backup\n"
         check((fails("--socket", f"{folder}/socket"), (1, told)))
-        told = f"b3store.server: {folder} is in use by another server\n"
+        told = f"b3store.server: {folder} is in use by another process\n"
         check((fails("--socket", f"{folder}-socket", "--save", folder), (1, told)), (os.path.exists(f"{folder}-socket"), False))
         os.close(locked)
         check((fails("--program", f"{folder}/none", "--socket", f"{folder}-socket", "--save", folder)[0], 1), (files_in(folder), {"log": b""}))
