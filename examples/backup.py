@@ -199,11 +199,15 @@ def is_entry(entry, kind):
 
 
 @contextlib.contextmanager
-def inside(name, flags=os.O_NOFOLLOW):
-    """Lets the process work in a folder, of which it gives a descriptor, and then where it was before. Raises OSError."""
+def inside(name, path=""):
+    """Lets the process work in a folder, of which it gives a descriptor, and then where it was before. The folder is no link, unless it has no path in a
+    snapshot. Raises OSError."""
+    if path.count("/") >= MAX_DEPTH:
+        raise OSError("the folders are nested too deeply")
+    flags = os.O_RDONLY | os.O_DIRECTORY | (os.O_NOFOLLOW if path else 0)
     with contextlib.ExitStack() as ending:
         numbers = []
-        for path, how in (".", os.O_PATH), (name, os.O_RDONLY | os.O_DIRECTORY | flags):
+        for path, how in (".", os.O_PATH), (name, flags):
             numbers.append(os.open(path, how))
             ending.callback(os.close, numbers[-1])
         ending.callback(os.fchdir, numbers[0])
@@ -243,7 +247,7 @@ class Backup(Repository):
             with contextlib.suppress(StoreError, TypeError):
                 if not self.known and self.snapshot(address)["path"] == place and not self.options.all:
                     self.known.update((tuple(entry["state"]), entry["parts"]) for _, entry in self.paths(address) if "state" in entry)
-        with inside(self.options.folder, 0) as number:
+        with inside(self.options.folder) as number:
             top = {**self.facts("top", "folder", number, "."), "list": self.save_list("")}
         address = self.keep_value({"time": time.time(), "path": place, "top": top})
         self.set_snapshots([*self.snapshots, address])
@@ -254,8 +258,6 @@ class Backup(Repository):
 
     def save_list(self, path):
         """Keeps the list of what is in the current folder, and returns its address."""
-        if path.count("/") > MAX_DEPTH:
-            raise OSError("the folders are nested too deeply")
         found = []
         for name in sorted(os.listdir(".")):
             below = os.path.join(path, name)
@@ -277,7 +279,7 @@ class Backup(Repository):
         if kind == "link":
             return [{**self.facts(name, kind, name, path), "target": os.readlink(name)}]
         if kind == "folder":
-            with inside(name) as number:
+            with inside(name, path) as number:
                 return [{**self.facts(name, kind, number, path), "list": self.save_list(path)}]
         with opened(name) as file:
             return [{**self.facts(name, kind, file.fileno(), path), **self.save_parts(file, path)}]
@@ -317,7 +319,7 @@ class Backup(Repository):
         os.makedirs(os.path.dirname(os.path.abspath(self.options.folder)), exist_ok=True)
         with contextlib.suppress(FileExistsError):
             os.mkdir(self.options.folder, NEW_FOLDER)
-        with inside(self.options.folder, 0) as self.top:
+        with inside(self.options.folder) as self.top:
             self.restore_list(self.top, top, "", [name for name in (self.options.path or "").split("/") if name])
         if self.foreign:
             self.report(f"{count_text(self.foreign, 'owner')} couldn't be set; no setuid or setgid bits are set there")
@@ -331,7 +333,7 @@ class Backup(Repository):
             below = os.path.join(path, entry["name"])
             try:
                 self.restore_entry(entry, below, wanted[1:])
-            except (OSError, StoreError, LookupError, ArithmeticError, RecursionError, TypeError, ValueError) as error:
+            except (OSError, StoreError, LookupError, ArithmeticError, TypeError, ValueError) as error:
                 self.report(f"not restored: {below}: {error_text(error)}")
         status = os.fstat(number)
         # a folder that was there keeps its own mode, owner and time
@@ -344,7 +346,7 @@ class Backup(Repository):
         if entry["kind"] == "folder":
             with contextlib.suppress(FileExistsError):
                 os.mkdir(name, NEW_FOLDER)
-            with inside(name) as number:
+            with inside(name, path) as number:
                 return self.restore_list(number, entry, path, wanted)
         if os.path.lexists(name) and not is_equal(entry):
             return self.report(f"differs, and is left as it is: {path}")
@@ -431,7 +433,7 @@ class Backup(Repository):
             try:
                 for path, entry in self.paths(address, whole):
                     lists.add(entry.get("list"))
-                    faults += [path] if not set(entry.get("parts", ())) <= self.places.keys() else []
+                    faults += [path] if set(entry.get("parts", ())) - self.places.keys() else []
             except StoreError as fault:
                 faults.append(f"all: {fault}")
             for fault in faults:

@@ -51,18 +51,16 @@ from cache_content import Cache, Declined
 
 METRICS, HEALTH = "/metrics", "/healthz"
 """The paths that are no keys."""
-MAX_KEY_LEN = 1024
+MAX_KEY_LEN, MAX_LINE = 1 << 10, 1 << 12
 MAX_CONNECTIONS, OTHER_FILES = 450, 100
 """How many connections are open at a time, with a file for the body of each; and how many descriptors there are for all else."""
 SECONDS_OF_REQUEST, MIN_RATE, SECONDS_TO_LEAVE = 60, 1 << 14, 5
 """The last is how long a refused client may go on to send, so that it receives the answer."""
 SHORT, PIECE, STACK = 1 << 18, 1 << 18, 1 << 19
 """A body that is longer than the first is written to a file without a name in FOLDER as it arrives. Content is read and written in such pieces."""
-MAX_LINE = 1 << 12
 NUMBER, PORT = re.compile("[0-9]{1,19}"), re.compile(":[0-9]*$")
 RANGE = re.compile("bytes=([0-9]{0,19})-([0-9]{0,19})")
 CHUNK = re.compile(rb"([0-9a-fA-F]{1,15})[ \t]*(?:;[^\n]*)?\r?\n")
-M_ARENA_MAX = -8
 report = functools.partial(console.report, name="cache")
 EPILOG = "exit status: 0 after a signal; 1 the server can't start, or can't write its last changes to FOLDER; 2 usage error"
 
@@ -101,7 +99,9 @@ class Handler(http.server.BaseHTTPRequestHandler):
         self.path = words[1]
         if codings and codings[0].lower() != "chunked":
             raise Declined(501, "unknown transfer coding")
-        if not self.server.is_allowed(self.headers.get_all("Host", ["localhost"])):
+        hosts = self.headers.get_all("Host", ["localhost"])
+        name = PORT.sub("", hosts[0].lower())
+        if len(hosts) > 1 or not (name in self.server.hosts or is_address(name.strip("[]"))):
             raise Declined(403, "the header Host has another name: see --host")
         self.length = int(lengths[0]) if lengths else None
         self.has_body = bool(codings or self.length)
@@ -282,11 +282,6 @@ class Server(socketserver.ThreadingTCPServer):
         self.address_family, _, _, _, address = socket.getaddrinfo(options.host[0], options.port, type=socket.SOCK_STREAM)[0]
         super().__init__(address, Handler)
 
-    def is_allowed(self, hosts):
-        """Whether a request may have these headers Host."""
-        name = PORT.sub("", hosts[0].lower())
-        return len(hosts) == 1 and (name in self.hosts or is_address(name.strip("[]")))
-
     def wait_for(self, connection):
         """Notes that a connection waits for a request."""
         self.deadlines[connection] = time.monotonic() + SECONDS_OF_REQUEST
@@ -393,8 +388,8 @@ def main():
     options = parser.parse_args()
     options.host = options.host or ["127.0.0.1"]
     threading.stack_size(STACK)
-    # one heap for all threads: each can use again what any of them frees
-    ctypes.CDLL(None).mallopt(M_ARENA_MAX, 1)
+    # M_ARENA_MAX, one heap for all threads: each can use again what any of them frees
+    ctypes.CDLL(None).mallopt(-8, 1)
     # nohup ignores SIGHUP, and a shell ignores SIGINT for what runs in the background
     ending = {number for number in ENDING if signal.getsignal(number) is not signal.SIG_IGN}
     signal.pthread_sigmask(signal.SIG_BLOCK, ending)

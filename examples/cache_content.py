@@ -67,8 +67,7 @@ class Cache:
             self.unused.update((CONTENT, address) for address in lengths)
             self.unused.update((RECORDS, record) for record in records)
             self.forget_unused()
-            while self.keys and self.store.usage(CONTENT).used > self.limit:
-                self.drop(next(iter(self.keys)))
+            self.evict(self.store.usage(CONTENT).used - self.limit)
             self.store.limit(CONTENT, self.limit)
             self.evictions, self.fault = 0, ""
             return count_text(len(self.keys), "key")
