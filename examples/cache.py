@@ -31,7 +31,6 @@ import ctypes
 import email.utils
 import functools
 import http.server
-import ipaddress
 import queue
 import re
 import resource
@@ -59,9 +58,12 @@ SECONDS_OF_REQUEST, MIN_RATE, SECONDS_TO_LEAVE = 60, 1 << 14, 5
 SHORT, PIECE, STACK = 1 << 18, 1 << 18, 1 << 19
 """A body that is longer than the first is written to a file without a name in FOLDER as it arrives. Content is read and written in such pieces."""
 NUMBER, PORT = re.compile("[0-9]{1,19}"), re.compile(":[0-9]*$")
+ADDRESS = re.compile(r"[0-9.]+|\[[0-9a-f:.]+\]")
+"""An IP address in the header Host: the last label of a name is never a number."""
 RANGE = re.compile("bytes=([0-9]{0,19})-([0-9]{0,19})")
 CHUNK = re.compile(rb"([0-9a-fA-F]{1,15})[ \t]*(?:;[^\n]*)?\r?\n")
 report = functools.partial(console.report, name="cache")
+date_text = functools.lru_cache(1)(functools.partial(email.utils.formatdate, usegmt=True))
 EPILOG = "exit status: 0 after a signal; 1 the server can't start, or can't write its last changes to FOLDER; 2 usage error"
 
 
@@ -101,7 +103,7 @@ class Handler(http.server.BaseHTTPRequestHandler):
             raise Declined(501, "unknown transfer coding")
         hosts = self.headers.get_all("Host", ["localhost"])
         name = PORT.sub("", hosts[0].lower())
-        if len(hosts) > 1 or not (name in self.server.hosts or is_address(name.strip("[]"))):
+        if len(hosts) > 1 or not (name in self.server.hosts or ADDRESS.fullmatch(name)):
             raise Declined(403, "the header Host has another name: see --host")
         self.length = int(lengths[0]) if lengths else None
         self.has_body = bool(codings or self.length)
@@ -344,18 +346,6 @@ class Server(socketserver.ThreadingTCPServer):
 def close(connection, how):
     with contextlib.suppress(OSError):
         connection.shutdown(how)
-
-
-@functools.lru_cache(MAX_CONNECTIONS)
-def is_address(name):
-    with contextlib.suppress(ValueError):
-        return bool(ipaddress.ip_address(name))
-    return False
-
-
-@functools.lru_cache(1)
-def date_text(seconds):
-    return email.utils.formatdate(seconds, usegmt=True)
 
 
 def serve(options, ending):

@@ -64,8 +64,7 @@ class Cache:
                     address = found[1].decode()
                     self.lead(found[2].decode("latin-1"), Entry(address, lengths[address], record))
             self.uses[RECORDS, self.store.file(RECORDS, MARK).address] = 1
-            self.unused.update((CONTENT, address) for address in lengths)
-            self.unused.update((RECORDS, record) for record in records)
+            self.unused.update([(CONTENT, address) for address in lengths], [(RECORDS, record) for record in records])
             self.forget_unused()
             self.evict(self.store.usage(CONTENT).used - self.limit)
             self.store.limit(CONTENT, self.limit)
@@ -131,9 +130,9 @@ class Cache:
             raise Declined(503, self.fault)
 
     def evict(self, missing):
-        """Drops the least recently used keys, until that has freed so many bytes. Returns whether it has freed any."""
+        """Drops the least recently used keys, until that has freed so many bytes, and no key is too many. Returns whether it has freed any."""
         freed = 0
-        while freed < missing:
+        while freed < missing or len(self.keys) > self.max_keys:
             # other requests have the lock between two keys
             with self.lock:
                 if not self.keys or not self.forget_unused():
@@ -147,15 +146,13 @@ class Cache:
         return self.evict(1 + self.store.usage(CONTENT).used // 8)
 
     def lead(self, key, entry):
-        """Lets a key lead to an object. If there are too many keys then, drops the least recently used one."""
+        """Lets a key lead to an object. If there are too many keys then, the least recently used one is evicted."""
         self.uses[CONTENT, entry.address] += 1
         self.uses[RECORDS, entry.record] += 1
         if key in self.keys:
             self.drop(key)
         self.keys[key] = entry
-        if len(self.keys) > self.max_keys:
-            self.drop(next(iter(self.keys)))
-            self.evictions += 1
+        self.evict(0)
 
     def drop(self, key):
         """Drops a key, and returns how many bytes of content are forgotten with it."""

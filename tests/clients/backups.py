@@ -428,6 +428,7 @@ def forgets():
         kept = state_of(folder)
         for number in range(6):
             put(folder, "changing", rng.randbytes(400000))
+            put(folder, f"kept{number}", rng.randbytes(1000))
             run("save", repository, folder)
         sizes = [sum(os.path.getsize(os.path.join(repository, name)) for name in os.listdir(repository))]
         names = [line.split()[0] for line in run("list", repository)[1]]
@@ -436,6 +437,9 @@ def forgets():
                 time.sleep(0.15 + rng.random() * 0.1)
                 process.kill()
             is_whole(repository, len(run("list", repository)[1]))
+        # its log has something that the last snapshot needs
+        check((run("forget", repository, names[4])[0], 0))
+        is_whole(repository, len(run("list", repository)[1]))
         left = [line.split()[0] for line in run("list", repository)[1]]
         status, lines, _ = run("forget", repository, *[name for name in left if name in names[1:]])
         sizes.append(sum(os.path.getsize(os.path.join(repository, name)) for name in os.listdir(repository)))

@@ -162,7 +162,7 @@ def bodies_that_are_too_long():
 WRONG = {
     b"\r\n\r\n": None, b"x\r\n\r\n": 400, b"GET\r\n\r\n": 400, b"GET /k HTTP/2.0\r\n\r\n": 505, b"GET /k HTTP/x\r\n\r\n": 400, b"GET k HTTP/1.1\r\n\r\n": 400, b"GET /k /l HTTP/1.1\r\n\r\n": 400,
     b"GET http://localhost/k HTTP/1.1\r\n\r\n": 400, b"PATCH /k HTTP/1.1\r\n\r\n": 501, b"POST /k HTTP/1.1\r\nContent-Length: 3\r\n\r\nabc": 501, b"OPTIONS * HTTP/1.1\r\n\r\n": 400,
-    b"GET /k HTTP/1.1\r\nno colon\r\n\r\n": 400, b"GET /k HTTP/1.1\r\nHost: a\r\nHost: localhost\r\n\r\n": 403, b"PUT /x HTTP/1.1\r\n\r\n": 411,
+    b"GET /k HTTP/1.1\r\nno colon\r\n\r\n": 400, b"GET /k HTTP/1.1\r\nHost: localhost\r\nHost: a\r\n\r\n": 403, b"PUT /x HTTP/1.1\r\n\r\n": 411,
     b"GET /" + b"k" * 70000 + b" HTTP/1.1\r\n\r\n": 414, b"GET /k HTTP/1.1\r\nA: " + b"k" * 70000 + b"\r\n\r\n": 431, b"GET /k HTTP/1.1\r\n" + b"A: b\r\n" * 101 + b"\r\n": 431,
     b"PUT /x HTTP/1.1\r\nContent-Length: -1\r\n\r\n": 400, b"PUT /x HTTP/1.1\r\nContent-Length: 1_0\r\n\r\n": 400, b"PUT /x HTTP/1.1\r\nContent-Length: 3\r\nContent-Length: 4\r\n\r\nabcd": 400,
     b"PUT /x HTTP/1.1\r\nContent-Length: 3, 3\r\n\r\nabc": 400, b"PUT /x HTTP/1.1\r\nContent-Length: 3\r\nTransfer-Encoding: chunked\r\n\r\n0\r\n\r\n": 400,
@@ -197,7 +197,7 @@ def hosts():
             return cache.ask("GET", "/healthz", headers={"Host": host})[0]
 
         allowed = "localhost", "LOCALHOST:80", "127.0.0.1:8080", "[::1]:1", "10.0.0.1", "builds.EXAMPLE:8080"
-        refused = "evil.example", "localhost.evil", "builds.example.evil:80", "", "127.0.0.1.evil", "[x]"
+        refused = "evil.example", "localhost.evil", "builds.example.evil:80", "", "127.0.0.1.evil", "[x]", "[::1].evil", "10.0.0.1 evil"
         check(*[(status(host), 200) for host in allowed], *[((host, status(host)), (host, 403)) for host in refused])
 
 
