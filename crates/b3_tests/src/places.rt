@@ -5,7 +5,7 @@ ghost use Rattle.std.specs.Arc.{arc_value};
 
 use crate::fakes::pattern;
 use b3_core::{Hasher, Mode, Runtime, Top, Work};
-use b3_parallel::{HashThreads, Source, hash_source};
+use b3_parallel::{HashThreads, Source, hash_source, read_source};
 use std::alloc::{AllocError, Global};
 use std::io;
 use std::io::{ErrorKind, Read};
@@ -190,4 +190,74 @@ fn a_read_that_fails(rt: HostRuntime) {
         let shelf = shelf_of(rt.alloc(), LEAST + BLOCK).expect(&rt, "memory for the bytes");
         assert!(rt; are_torn(&rt, rt.alloc(), shelf, threads), "{threads}");
     }
+}
+
+// Whether blocks are these bytes, one block after the other.
+fn are_bytes(blocks: &[Vec<u8>], bytes: &[u8]) -> bool {
+    let mut rest = bytes;
+    for block in blocks {
+        match rest.strip_prefix(block.as_slice()) {
+            Some(following) => rest = following,
+            None => return false,
+        }
+    }
+    rest.is_empty()
+}
+
+// The result for a source of the stated length in blocks of 100,000 bytes: the wanted bytes ("alike"), none ("none"), or others ("other").
+fn gathered<T: Threads + Sync, S: Source + Sync>(
+    rt: &T,
+    alloc: Global,
+    source: &S,
+    len: u64,
+    threads: u32,
+    wanted: &[u8],
+) -> &'static str {
+    let threads = HashThreads {
+        rt,
+        alloc,
+        count: Some(threads),
+    };
+    match read_source(&threads, source, len, 100_000) {
+        Some(blocks) if are_bytes(&blocks, wanted) => "alike",
+        Some(_) => "other",
+        None => "none",
+    }
+}
+
+// Threads, a stated length, the offset from which reads fail, and the result for `LEAST + BLOCK` bytes.
+struct Expected(u32, u64, u64, &'static str);
+
+const EXPECTED: &[Expected] = &[
+    Expected(2, LEAST + BLOCK, u64::MAX, "alike"),
+    Expected(3, LEAST + BLOCK, u64::MAX, "alike"),
+    Expected(16, LEAST + BLOCK, u64::MAX, "alike"),
+    Expected(1, LEAST + BLOCK, u64::MAX, "none"),
+    Expected(3, LEAST - 1, u64::MAX, "none"),
+    Expected(3, LEAST + BLOCK - 1, u64::MAX, "none"),
+    Expected(3, LEAST + BLOCK + 1, u64::MAX, "none"),
+    Expected(3, LEAST + BLOCK, 0, "none"),
+    Expected(3, LEAST + BLOCK, 1_000_000, "none"),
+    Expected(3, LEAST + BLOCK, LEAST + BLOCK, "none"),
+];
+
+// Whether each has its result, with reads that return all bytes and with those that return few. All have one shelf.
+fn are_gathered<T: Threads + Sync>(rt: &T, alloc: Global, shelf: Shelf) -> bool {
+    let Ok(same) = shelf.again() else {
+        return false;
+    };
+    let mut source = Torn { shelf, fails_at: 0 };
+    let mut are_all = gathered(rt, alloc, &same, LEAST + BLOCK, 3, same.0.as_slice()) == "alike";
+    for Expected(threads, len, fails_at, result) in EXPECTED {
+        source.fails_at = *fails_at;
+        let found = gathered(rt, alloc, &source, *len, *threads, same.0.as_slice());
+        are_all = are_all && found == *result;
+    }
+    are_all
+}
+
+#[test]
+fn blocks_are_all_bytes_of_a_source(rt: HostRuntime) {
+    let shelf = shelf_of(rt.alloc(), LEAST + BLOCK).expect(&rt, "memory for the bytes");
+    assert!(rt; are_gathered(&rt, rt.alloc(), shelf));
 }
