@@ -12,14 +12,15 @@
 //!   block of 2 MiB is hashed by a new thread.
 //! - `hash_source` returns the node of the tree over a `Source`, such as an open file, that threads can read at any offset: each thread
 //!   takes the next free block of 512 KiB, reads it and hashes it.
+//! - `read_source` returns the bytes of a `Source` in blocks: each thread reads its share of them into new memory.
 //! - `update` appends bytes in memory to a `Hasher`, as its own `update` does, and hashes them in whole subtrees, one thread each.
 //! - `thread_count` is the number of threads that these use.
 //!
 //! Contracts say which value a call returns. They do not say that threads overlap, or how fast they are. No call leaves a thread running.
 //! If a thread cannot be started, or memory for one cannot be allocated, the calling thread hashes alone.
 //!
-//! No value or count depends on the number of threads; it decides only whether `hash_source` returns one. Threads that read one file have
-//! duplicates of its descriptor, since a file that is opened again by its name may be another file.
+//! No value or count depends on the number of threads; it decides only whether `hash_source` and `read_source` return one. Threads that hash
+//! one file have duplicates of its descriptor, since a file that is opened again by its name may be another file.
 #![tactic(auto)]
 
 mod blocks;

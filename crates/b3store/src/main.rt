@@ -17,6 +17,7 @@ mod words;
 use b3_core::{Runtime, Work};
 use explaining::Refusals;
 use extent::Extent;
+use hash_engines::SystemFile;
 use inputs::{check_status, sum_status};
 use progress::with_progress;
 use reporting::{GOOD, REFUSED, USAGE, status, stopped};
@@ -29,7 +30,7 @@ use std::sync::Wait;
 use std::thread::Threads;
 use store_command_line::{AskedUpload, Fault, Input, Options, SumInputs, SumOptions, options};
 use store_engines::{
-    Cause, JournalFault, UnnamedLedgers, UploadOptions, Verdict, audit, migrate, upload,
+    Cause, JournalFault, UnnamedLedgers, UploadOptions, Verdict, audit, migrate, upload_input,
 };
 use store_lines::run;
 use words::{Words, not_text};
@@ -57,27 +58,27 @@ fn run_script(errors: StandardError<'_>) -> Result<Verdict, Cause> {
 }
 
 // Uploads standard input.
-fn upload_input<T: Threads + Wait + Sync + Runtime>(
+fn upload_standard_input<T: Threads + Wait + Sync + Runtime>(
     errors: StandardError<'_>,
     threads: &T,
     extent: &Extent,
     asked: &AskedUpload,
 ) -> Result<Verdict, Cause> {
     let rt = errors.runtime();
-    extent.note_input(&StandardInput::new(rt));
-    let (mut reader, mut writer) = (rt.stdin(), answer_output(errors));
+    let (mut input, mut writer) = (StandardInput::new(rt), answer_output(errors));
+    extent.note_input(&input);
     let ledgers = UnnamedLedgers::new(rt.alloc())?;
     let options = UploadOptions {
         workers: asked.workers,
         part_chunks: asked.part_chunks,
         journal: asked.journal,
     };
-    upload::<Brand, _, _, _>(
+    upload_input::<Brand, _, SystemFile, _, _>(
         threads,
         rt.alloc(),
         options,
         ledgers,
-        &mut reader,
+        &mut input,
         &mut writer,
     )
 }
@@ -111,7 +112,10 @@ fn perform<T: Threads + Wait + Copy + Send + Sync + Runtime + 'static>(
         Options::Sum(options) => sum_status(errors, threads, extent, options, words),
         Options::Run => status(errors, run_script(errors)),
         Options::Serve(options) => serve_status(errors, threads, options),
-        Options::Upload(asked) => status(errors, upload_input(errors, threads, extent, asked)),
+        Options::Upload(asked) => status(
+            errors,
+            upload_standard_input(errors, threads, extent, asked),
+        ),
         Options::Check(options) => check_status(errors, threads, extent, options),
         Options::Audit => journal_status(errors, audit(alloc, &mut reader, &mut writer)),
         Options::Migrate => journal_status(errors, migrate(alloc, &mut reader, &mut writer)),

@@ -7,6 +7,8 @@
 //! | `audit` | a journal's text | the totals that result from it and what was accepted according to it |
 //! | `migrate` | a journal's text | the text of version 2 of its entries |
 //!
+//! `upload_input` does what `upload` does, and several threads read an input that is an open file.
+//!
 //! An engine ends with its `Verdict`, those of journals with the `JournalFault` of a refused one, or with the `Cause` that stopped it.
 //!
 //! Contracts know what a reader returns and what a writer accepted if the types specify it, as slices and vectors do. The texts,
