@@ -1,6 +1,6 @@
 -- What an upload writes.
 use Rattle.std.proofs.Common.{◌≡◌, ◌++◌, arith, codes, inl, inr, refl, ℕ, Bool, true, false, List, Option, Some, None, Result, Ok, Err, ap, subst, sym, [], length, ◌∙◌}
-use Rattle.std.specs.Prelude.{IfSome, OnErr, OnOk, if◌then◌else◌, option_map}
+use Rattle.std.specs.Prelude.{OnErr, OnOk, if◌then◌else◌, option_map}
 use Rattle.std.specs.Option.{option_map_or}
 use Rattle.std.specs.Io.KnownBytes.{Appends}
 use Rattle.b3_core.specs.Modes.{hash_of}

@@ -1,6 +1,6 @@
 //! Reading an input in stretches.
 
-ghost use Rattle.std.specs.Prelude.{◌≡◌, ◌≢◌, ◌<◌, ◌≤◌, ◌++◌, IfNone, IfSome, OnOk, IfOk, IfErr, flat_map, take, vec_len};
+ghost use Rattle.std.specs.Prelude.{◌≡◌, ◌≢◌, ◌<◌, ◌≤◌, IfNone, IfSome, OnOk, IfOk, IfErr, flat_map, take, vec_len};
 ghost use Rattle.std.specs.Io.KnownBytes.{Consumes, IsAtEnd, Keeps};
 ghost use Rattle.b3_parallel.specs.Rounds.{AreAll};
 

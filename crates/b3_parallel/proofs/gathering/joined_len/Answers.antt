@@ -1,4 +1,4 @@
-use Rattle.std.proofs.Common.{◌≡◌, ◌*◌, ◌+◌, ◌∙◌, arith, ap, flat_map, length, length-append, rules, slice_index_or, sym, take}
+use Rattle.std.proofs.Common.{◌≡◌, ◌*◌, ◌+◌, ◌∙◌, ap, flat_map, length, length-append, rules, slice_index_or, sym, take}
 use Rattle.b3_parallel.proofs.Placing.{blocks_join, blocks_more}
 use Rattle.b3_parallel.proofs.gathering.joined_len.Goals as goal
 
