@@ -19,7 +19,7 @@ use Rattle.store_lines.specs.declared.request.Filing.{Filing}
 use Rattle.store_lines.specs.declared.request.Request.TheVariants.{File}
 use Rattle.store_lines.specs.inner.Reads.{Dropped}
 use Rattle.store_lines.specs.declared.filing.Filled.TheVariants as filled
-use Rattle.store_lines.specs.inner.Reporting.{FiledOver, FilesOver, FillsOver, IsOfUpload, LeavesOver, NamesUpload, OutcomeOver, PutsOver, StopsOver, bytes_before}
+use Rattle.store_lines.specs.inner.Reporting.{FiledOver, FilesOver, FillsOver, LeavesOver, NamesUpload, OutcomeOver, PutsOver, StopsOver, bytes_before}
 use Rattle.store_upload.specs.Uploads.{UploadPlan, max_part_bytes}
 
 -- ---- steps
@@ -34,10 +34,6 @@ begun_step (Err refusal) old new reply h = absurd h
 -- an upload that is begun has a number
 pub begun_reply : (reach : Reach) (was is : SessionState → Type 0) (tenant len : ℕ) (reply : Reply) → Took reach was is (change (commands.Begin tenant len)) (Ok reply) → (upload : ℕ) × (plan : UploadPlan) × (reply ≡ replies.Upload upload plan)
 begun_reply reach was is tenant len reply t = begun_step (begin_in t.found.state tenant len) t.found t.left reply t.step
-
--- it is in the reply
-pub has_upload : (reach : Reach) (was is : SessionState → Type 0) (tenant len : ℕ) (reply : Reply) → Took reach was is (change (commands.Begin tenant len)) (Ok reply) → IsOfUpload reply
-has_upload reach was is tenant len reply t = let b = begun_reply reach was is tenant len reply t in subst IsOfUpload (sym b.2) tt
 
 named : (reply : Reply) (upload : ℕ) → NamesUpload reply upload → (plan : UploadPlan) × (reply ≡ replies.Upload upload plan)
 named (replies.Upload number plan) upload is = (plan, ap (λ (n : ℕ). replies.Upload n plan) (sym is))

@@ -19,10 +19,6 @@ use Rattle.store_lines.proofs.Read.{found}
 digits_few : (n : ℕ) → n < 2 ^ 64 → length (decimal n) ≤ 20
 digits_few n lt = length-decimal-le 20 n (omega arith) (omega (arith, lt)) lt
 
--- a word and what follows it
-worded : (line word fields : List ℕ) (k n : ℕ) → line ≡ word ++ fields → length word ≡ k → length fields ≤ n → length line ≤ k + n
-worded line word fields k n is long few = omega (arith, ap length is, length-append word fields, long, few)
-
 one : (line word : List ℕ) (n : ℕ) → line ≡ word ++ decimal n → n < 2 ^ 64 → length word ≤ 10 → length line ≤ max_line
 one line word n is lt few = omega (arith, ap length is, length-append word (decimal n), digits_few n lt, few)
 

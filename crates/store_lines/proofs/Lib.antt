@@ -8,9 +8,7 @@ mod Told
 mod Words
 pub mod Lengths
 mod Frames
-mod Ranges
 mod Lines
-mod Parts
 pub mod Steps
 mod Puts
 mod FileParts

@@ -29,7 +29,6 @@ use Rattle.store_lines.specs.Turns.{IsLinkedPut, IsLinkedStep}
 use Rattle.store_lines.specs.inner.Reporting.{AnsweredOver}
 use Rattle.store_lines.proofs.Read.{found}
 use Rattle.store_lines.proofs.Reports.{plays}
-use Rattle.store_lines.specs.Spelling.{IsSpelled}
 use Rattle.store_lines.specs.Script.{bad, listed, range_entries, reply_ending, skipped, took}
 use Rattle.store_lines.specs.Texts.{entries_text}
 use Rattle.store_lines.specs.Questions.{answer_text}
@@ -115,10 +114,6 @@ pub request_put : (old new : ModelStore) (request : Request) (part : Part) (answ
     → AnswersRequest old new request (reported_text new.journal answer) (reported_ending answer)
 request_put old new request part answer same h =
     subst (λ (r : Request). AnswersRequest old new r (reported_text new.journal answer) (reported_ending answer)) (sym same) (record { answers = λ line some is. put_asked old new line part answer some is h })
-
--- no line of a script has another
-pub request_raw : (old : ModelStore) (request : Request) (text : List ℕ) (ending : Ending) → ((line : List ℕ) → IsSpelled line request → ⊥) → AnswersRequest old old request text ending
-request_raw old request text ending none = record { answers = λ line some is. absurd (none line (found line request (sym is))) }
 
 -- ---- a line that was read
 

@@ -127,9 +127,6 @@ aborted_more : (reach : Reach) (old mid new : SessionState) (uploads : List ℕ)
 aborted_more reach old mid new [] upload turn h step = (turn, new, subst (λ (s : SessionState). IsLinkedStep reach s (change (commands.Abort upload)) turn new) h step, refl)
 aborted_more reach old mid new (first ∷ uploads) upload turn h step = (h.0, h.1, h.2, aborted_more reach h.1 mid new uploads upload turn h.3 step)
 
-pub aborts_none : (reach : Reach) (was : SessionState → Type 0) → AbortsOver reach was was []
-aborts_none reach was = record { goes = λ before session. (before, (refl, session)) }
-
 pub aborts_more : (reach : Reach) (was mid is : SessionState → Type 0) (uploads : List ℕ) (upload : ℕ) (reply : Result Reply Refusal) → AbortsOver reach was mid uploads → Took reach mid is (change (commands.Abort upload)) reply → AbortsOver reach was is (uploads ++ upload ∷ [])
 aborts_more reach was mid is uploads upload reply a t = record {
   goes = λ before session.

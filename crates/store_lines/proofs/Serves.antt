@@ -2,15 +2,13 @@
 use Rattle.std.proofs.Common.{◌≡◌, ◌<◌, [], ℕ, Bool, true, false, List, ◌∷◌, Ok, Err, Some, None, Option, Result, arith, drop, inl, inr, length, refl, subst, sym, take}
 use Rattle.std.specs.Prelude.{IfOk, IfSome, codes}
 use Rattle.std.specs.Io.BufRead.{strip_last}
-use Rattle.std.specs.Io.KnownBytes.{Appends}
-use Rattle.std.proofs.KnownBytes.{Appends-nil}
 use Rattle.store_lines.specs.Grammar.{command_at}
 use Rattle.store_lines.specs.inner.Answers.{reported_text}
 use Rattle.store_lines.specs.Script.{bad, skipped}
 use Rattle.store_lines.specs.declared.answer.Answer.{Answer}
 use Rattle.store_lines.specs.inner.Requests.{IsFound, IsLineOf, IsOwnOrScript, IsSessionLine, MayTakeMemory}
 use Rattle.store_lines.specs.Requests.{request_in}
-use Rattle.store_lines.specs.Session.{IsShort, SessionTurn, as_script, filed, no_memory, reported_as, session_turn_text}
+use Rattle.store_lines.specs.Session.{IsShort, SessionTurn, as_script, filed, reported_as, session_turn_text}
 use Rattle.edge.specs.declared.lines.LineRead.{LineRead}
 use Rattle.store_lines.specs.declared.request.Request.{Request}
 use Rattle.store_lines.specs.declared.request.Filing.{Filing}
@@ -75,17 +73,6 @@ served_raw (Some following) left Wrote session was is Has part got answer same h
 pub leaves_over : (reach : Reach) (was is : SessionState → Type 0) (request : Option Request) (following : List ℕ) → Leaves reach was is → LeavesOver reach was is request following
 leaves_over reach was is request following l = record { leaves = λ before session. let k = l.leaves before session in (at before k.0, (inl (k.0, k.1.0, refl), k.1.1)) }
 
-pub leaves_now : (now : Option (List ℕ)) (reach : Reach) (was is : SessionState → Type 0) (request : Option Request) → Leaves reach was is → IfSome now (λ following. LeavesOver reach was is request following)
-leaves_now None reach was is request l = tt
-leaves_now (Some following) reach was is request l = leaves_over reach was is request following l
-
-pub served_none : (now left w : Option (List ℕ)) (session : Session) (was is : SessionState → Type 0) (Has : SessionTurn → Type 0) (part : RawPart) (got : Option Answer) → got ≡ None → IfSome now (λ following. ReceivesOver session.reach was is got part.upload part.offset part.len following left)
-    → IfSome now (λ following. ServesRequestOver session was is Has false (PutRaw part) following left (Appends w w))
-served_none None left w session was is Has part got same h = tt
-served_none (Some following) left w session was is Has part got same h =
-    let h2 = subst (λ (o : Option Answer). ReceivesOver session.reach was is o part.upload part.offset part.len following left) same h in
-    record { serves = λ whole. (h2.0, Appends-nil w, leaves_over session.reach was is (Some (PutRaw part)) following h2.1, h2.2) }
-
 -- a file
 pub served_file : (now left : Option (List ℕ)) (Wrote : List ℕ → Type 0) (session : Session) (was is : SessionState → Type 0) (Has : SessionTurn → Type 0) (filing : Filing) (got : Option Answer) (answer : Answer) → got ≡ Some answer → ((turns : FileTurn) → Has (filed turns))
     → IfSome now (λ following. FilesOver session.reach was is got filing following left) → Wrote (reported_text [] answer) → IfSome now (λ following. ServesRequestOver session was is Has true (File filing) following left Wrote)
@@ -105,13 +92,6 @@ served_file (Some following) left Wrote session was is Has filing got answer sam
         ),
       );
     }
-
-pub served_no_file : (now left w : Option (List ℕ)) (session : Session) (was is : SessionState → Type 0) (Has : SessionTurn → Type 0) (filing : Filing) (got : Option Answer) → got ≡ None → IfSome now (λ following. FilesOver session.reach was is got filing following left)
-    → IfSome now (λ following. ServesRequestOver session was is Has false (File filing) following left (Appends w w))
-served_no_file None left w session was is Has filing got same h = tt
-served_no_file (Some following) left w session was is Has filing got same h =
-    let h2 = subst (λ (o : Option Answer). FilesOver session.reach was is o filing following left) same h in
-    record { serves = λ whole. (h2.0, Appends-nil w, h2.1, h2.2) }
 
 -- ---- a line
 
@@ -208,11 +188,6 @@ pub served_bad : (now : Option (List ℕ)) (Wrote : List ℕ → Type 0) (sessio
 served_bad now Wrote session was Has line fault same has wrote =
     subst (λ (l : Line). IfSome now (λ following. ServesLineOver session was was Has true l following now Wrote)) (sym same)
     (line_served now Wrote session was Has (lines.Bad fault) (reported_as as_script bad) (λ whole h. h) (λ text before is. (refl, plays session.reach before before text bad None is.0 is.1 (refl, refl))) has wrote)
-
-pub served_no_memory : (now : Option (List ℕ)) (Wrote : List ℕ → Type 0) (session : Session) (was : SessionState → Type 0) (Has : SessionTurn → Type 0) (line : Line) → line ≡ lines.NoMemory → Has no_memory → Wrote (session_turn_text no_memory) → IfSome now (λ following. ServesLineOver session was was Has true line following now Wrote)
-served_no_memory now Wrote session was Has line same has wrote =
-    subst (λ (l : Line). IfSome now (λ following. ServesLineOver session was was Has true l following now Wrote)) (sym same)
-    (line_served now Wrote session was Has lines.NoMemory no_memory (λ whole h. h) (λ text before may. (may_lack session text may, refl)) has wrote)
 
 -- a line that was read, after which the session's own uploads are noted
 pub noted_read : (reach : Reach) (uploads : UploadsAtEnd) (was is : SessionState → Type 0) (old new : OwnUploads) (is_whole : Bool) (now left : Option (List ℕ)) (Wrote : List ℕ → Type 0) (read : LineRead) (slice kept : List ℕ) (line : Line) → old.at_end ≡ uploads → slice ≡ kept → IsFound read slice line

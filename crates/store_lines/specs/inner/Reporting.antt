@@ -38,10 +38,6 @@ pub record LeavesOver (reach : Reach) (was is : SessionState → Type 0) (reques
 pub record LeavesLineOver (reach : Reach) (was is : SessionState → Type 0) (line : Line) (following : List ℕ) : Type 0 where
   pub leaves : (whole : List ℕ) → IsOwnOrScript whole line → LeavesOver reach was is (request_in whole) following
 
--- the same for a line that was read like this
-pub record LeavesReadOver (reach : Reach) (was is : SessionState → Type 0) (read : LineRead) (kept following : List ℕ) : Type 0 where
-  pub leaves : (whole : List ℕ) → IsSessionLine whole read kept → LeavesOver reach was is (request_in whole) following
-
 -- a turn was answered: it is the turn for each state that may have been left before, and its text was written, or some of it
 pub record ReportedOver (was is : SessionState → Type 0) (Is : SessionState → SessionTurn → SessionState → Type 0) (Wrote : List ℕ → Type 0) : Type 0 where
   pub turn : SessionTurn
