@@ -235,10 +235,3 @@ module _ (start now left : Option (List ℕ)) (reach : Reach) (was mid is : Sess
             subst (λ (k : ℕ). left ≡ Some (drop k following)) (sym same) end.1,
             end.2,
           )
-
-  pub cut_at : got ≡ None → IfSome start (λ following. FillsOver reach was is filled.Truncated filing upload following left)
-  cut_at none = by start p
-    where
-      by : (o : Option (List ℕ)) → IfSome o (λ following. PutsOver reach was mid filing upload number following now) → IfSome o (λ following. FillsOver reach was is filled.Truncated filing upload following left)
-      by None q = tt
-      by (Some following) q = truncated reach was mid is filing upload number following now left more (q, received None none)

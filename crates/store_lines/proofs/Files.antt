@@ -3,9 +3,7 @@ use Rattle.std.proofs.Common.{◌≡◌, ◌∙◌, ◌+◌, ◌*◌, ◌-◌, �
 use Rattle.std.specs.Prelude.{IfOk, IfSome, OnErr}
 use Rattle.std.proofs.lemmas.List.{drop-drop, length-drop}
 use Rattle.store_books.specs.declared.refusal.Refusal.{Refusal}
-use Rattle.store_core.specs.Commands.{Acceptance, StepsAs, as_is, begin_in}
-use Rattle.store_core.specs.Model.{ModelStore}
-use Rattle.store_core.specs.Runs.{Call, change, replied}
+use Rattle.store_core.specs.Runs.{Call, change}
 use Rattle.store_core.specs.declared.command.Command.TheVariants as commands
 use Rattle.store_core.specs.declared.store.questions.Reply.{Reply}
 use Rattle.store_core.specs.declared.store.questions.Reply.TheVariants as replies
@@ -26,14 +24,6 @@ use Rattle.store_upload.specs.Uploads.{UploadPlan, max_part_bytes}
 
 stepped : (reach : Reach) (was is : SessionState → Type 0) (call : Call) (reply : Result Reply Refusal) → Took reach was is call reply → (before : SessionState) → was before → (after : SessionState) × (is after × IsLinkedStep reach before call (took call reply) after)
 stepped reach was is call reply t before session = (advance before t.found call reply t.left, (t.stands before session, (t.found, (t.linked before session, ((refl, t.step), (refl, refl, refl, refl))))))
-
-begun_step : (a : Result (Acceptance (ℕ × UploadPlan)) Refusal) (old new : ModelStore) (reply : Reply) → StepsAs as_is (replied (λ r. replies.Upload r.0 r.1) a) old (Ok reply) new → (upload : ℕ) × (plan : UploadPlan) × (reply ≡ replies.Upload upload plan)
-begun_step (Ok a) old new reply h = (a.reply.0, a.reply.1, h.0)
-begun_step (Err refusal) old new reply h = absurd h
-
--- an upload that is begun has a number
-pub begun_reply : (reach : Reach) (was is : SessionState → Type 0) (tenant len : ℕ) (reply : Reply) → Took reach was is (change (commands.Begin tenant len)) (Ok reply) → (upload : ℕ) × (plan : UploadPlan) × (reply ≡ replies.Upload upload plan)
-begun_reply reach was is tenant len reply t = begun_step (begin_in t.found.state tenant len) t.found t.left reply t.step
 
 named : (reply : Reply) (upload : ℕ) → NamesUpload reply upload → (plan : UploadPlan) × (reply ≡ replies.Upload upload plan)
 named (replies.Upload number plan) upload is = (plan, ap (λ (n : ℕ). replies.Upload n plan) (sym is))

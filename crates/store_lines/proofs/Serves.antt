@@ -6,7 +6,7 @@ use Rattle.store_lines.specs.Grammar.{command_at}
 use Rattle.store_lines.specs.inner.Answers.{reported_text}
 use Rattle.store_lines.specs.Script.{bad, skipped}
 use Rattle.store_lines.specs.declared.answer.Answer.{Answer}
-use Rattle.store_lines.specs.inner.Requests.{IsFound, IsLineOf, IsOwnOrScript, IsSessionLine, MayTakeMemory}
+use Rattle.store_lines.specs.inner.Requests.{IsFound, IsLineOf, IsOwnOrScript, IsSessionLine}
 use Rattle.store_lines.specs.Requests.{request_in}
 use Rattle.store_lines.specs.Session.{IsShort, SessionTurn, as_script, filed, reported_as, session_turn_text}
 use Rattle.edge.specs.declared.lines.LineRead.{LineRead}
@@ -17,14 +17,14 @@ use Rattle.store_lines.specs.declared.request.Request.TheVariants.{File, PutRaw}
 use Rattle.store_lines.specs.declared.bad_lines.LineFault.{LineFault}
 use Rattle.store_lines.specs.declared.session_line.Line.{Line}
 use Rattle.store_lines.specs.declared.session_line.Line.TheVariants as lines
-use Rattle.store_lines.specs.Access.{SessionState, Reach, at}
+use Rattle.store_lines.specs.Access.{SessionState, Reach}
 use Rattle.store_lines.specs.Filing.{FileTurn}
 use Rattle.store_lines.specs.Owning.{Session, session_of}
 use Rattle.store_lines.specs.declared.owning.OwnUploads.{OwnUploads}
 use Rattle.store_lines.specs.declared.owning.UploadsAtEnd.{UploadsAtEnd}
 use Rattle.store_lines.proofs.Under.{Noted}
-use Rattle.store_lines.specs.inner.Reporting.{FilesOver, Leaves, LeavesLineOver, LeavesOver, Notes, ReceivesOver, ReportedOver, ServesLineOver, ServesOver, ServesReadOver, ServesRequestOver}
-use Rattle.store_lines.specs.Turns.{IsCut, IsLinkedBytes, IsLinkedRequest, IsLinkedScriptLine, MayLack}
+use Rattle.store_lines.specs.inner.Reporting.{FilesOver, LeavesLineOver, LeavesOver, Notes, ReceivesOver, ReportedOver, ServesLineOver, ServesOver, ServesReadOver, ServesRequestOver}
+use Rattle.store_lines.specs.Turns.{IsCut, IsLinkedBytes, IsLinkedRequest, IsLinkedScriptLine}
 use Rattle.store_lines.proofs.Read.{found}
 use Rattle.store_lines.proofs.Reports.{plays, put_reported, script_turn}
 
@@ -68,10 +68,6 @@ served_raw (Some following) left Wrote session was is Has part got answer same h
         ),
       );
     }
-
--- a request that added nothing to the account
-pub leaves_over : (reach : Reach) (was is : SessionState → Type 0) (request : Option Request) (following : List ℕ) → Leaves reach was is → LeavesOver reach was is request following
-leaves_over reach was is request following l = record { leaves = λ before session. let k = l.leaves before session in (at before k.0, (inl (k.0, k.1.0, refl), k.1.1)) }
 
 -- a file
 pub served_file : (now left : Option (List ℕ)) (Wrote : List ℕ → Type 0) (session : Session) (was is : SessionState → Type 0) (Has : SessionTurn → Type 0) (filing : Filing) (got : Option Answer) (answer : Answer) → got ≡ Some answer → ((turns : FileTurn) → Has (filed turns))
@@ -174,10 +170,6 @@ line_served (Some following) Wrote session was Has line turn script goes has wro
 empty_turn : (session : Session) (text : List ℕ) (before : SessionState) → length text ≡ 0 → IsLinkedScriptLine session before text (reported_as as_script skipped) before
 empty_turn session [] before none = (refl, (refl, refl))
 empty_turn session (b ∷ text) before none = absurd (omega (arith, none))
-
-may_lack : (session : Session) (text : List ℕ) → MayTakeMemory text → MayLack session text
-may_lack session text (inl long) = inl long
-may_lack session text (inr puts_it) = inr (inl puts_it)
 
 pub served_empty : (now : Option (List ℕ)) (Wrote : List ℕ → Type 0) (session : Session) (was : SessionState → Type 0) (Has : SessionTurn → Type 0) (line : Line) → line ≡ lines.Empty → Has (reported_as as_script skipped) → Wrote [] → IfSome now (λ following. ServesLineOver session was was Has true line following now Wrote)
 served_empty now Wrote session was Has line same has wrote =
