@@ -1,7 +1,6 @@
 -- Filing the bytes after a line, part by part.
 use Rattle.std.proofs.Common.{◌≡◌, ◌∙◌, ◌+◌, ◌*◌, ◌-◌, ◌<◌, ◌≤◌, ◌++◌, ◌∷◌, [], ℕ, true, false, List, Some, None, Option, Ok, Err, Result, ap, arith, drop, inr, length, refl, subst, sym}
 use Rattle.std.specs.Prelude.{IfSome}
-use Rattle.std.specs.Io.KnownBytes.{IsAtEnd}
 use Rattle.std.proofs.lemmas.List.{drop-drop, length-append, length-drop}
 use Rattle.b3_forest.specs.Parts.{ModelPrepared, planned}
 use Rattle.store_books.specs.declared.refusal.Refusal.{Refusal}
@@ -17,7 +16,7 @@ use Rattle.store_lines.specs.declared.ending.Ending.TheVariants as endings
 use Rattle.store_lines.specs.declared.request.Filing.{Filing}
 use Rattle.store_lines.specs.inner.Answers.{is_good, reported_ending}
 use Rattle.store_lines.specs.declared.filing.Filled.TheVariants as filled
-use Rattle.store_lines.specs.inner.Reporting.{FillsOver, Leaves, OutcomeOver, PutsOver, ReceivesOver, StopsOver, bytes_before}
+use Rattle.store_lines.specs.inner.Reporting.{FillsOver, OutcomeOver, PutsOver, ReceivesOver, bytes_before}
 use Rattle.store_upload.specs.Uploads.{UploadPlan, max_part_bytes, part_fault}
 use Rattle.store_upload.specs.declared.refusal.PartFault.{PartFault}
 use Rattle.store_upload.specs.declared.refusal.PartFault.TheVariants as faults
@@ -182,30 +181,7 @@ module _ (reach : Reach) (was mid is : SessionState → Type 0) (filing : Filing
           },
         )
 
-    pub truncated : Received None following now left → (length following < filing.len) × StopsOver reach was is filing upload following × IsAtEnd left
-    truncated h =
-        let r = at_part following now left None more h in
-        let p = h.0 in
-        let enough : first ≤ length following = begins p in
-        let rest : length (drop first following) ≡ length following - first = length-drop first following in
-        (omega (arith, r.0, rest, enough), stop p r.1, r.2)
-      where
-        stop : PutsOver reach was mid filing upload number following now → Leaves reach mid is → StopsOver reach was is filing upload following
-        stop p l = record {
-          puts = p.puts;
-          goes = λ before session. let g = p.goes before session in let k = l.leaves g.0 g.1.0 in (g.0, k.0, g.1.1, k.1.0, k.1.1);
-        }
-
 -- ---- the same for what the code has
-
--- parts were put, and the next one can't be read
-pub stops : (start now : Option (List ℕ)) (reach : Reach) (was mid is : SessionState → Type 0) (filing : Filing) (upload number : ℕ) → IfSome start (λ following. PutsOver reach was mid filing upload number following now) → Leaves reach mid is
-    → IfSome start (λ following. StopsOver reach was is filing upload following)
-stops None now reach was mid is filing upload number p l = tt
-stops (Some following) now reach was mid is filing upload number p l = record {
-  puts = p.puts;
-  goes = λ before session. let g = p.goes before session in let k = l.leaves g.0 g.1.0 in (g.0, k.0, g.1.1, k.1.0, k.1.1);
-}
 
 module _ (start now left : Option (List ℕ)) (reach : Reach) (was mid is : SessionState → Type 0) (filing : Filing) (upload number offset len : ℕ) (offset_is : offset ≡ number * max_part_bytes) (len_is : len ≡ part_len filing.len number)
     (more : number * max_part_bytes < filing.len) (p : IfSome start (λ following. PutsOver reach was mid filing upload number following now)) (got : Option Answer) (r : IfSome now (λ rest. ReceivesOver reach mid is got upload offset len rest left)) where
