@@ -248,6 +248,8 @@ class Backup(Repository):
                 if not self.known and self.snapshot(address)["path"] == place and not self.options.all:
                     self.known.update((tuple(entry["state"]), entry["parts"]) for _, entry in self.paths(address) if "state" in entry)
         with inside(self.options.folder) as number:
+            if os.path.samestat(os.fstat(number), os.fstat(self.folder)):
+                raise StoreError(f"{self.options.folder} is the repository")
             top = {**self.facts("top", "folder", number, "."), "list": self.save_list("")}
         address = self.keep_value({"time": time.time(), "path": place, "top": top})
         self.set_snapshots([*self.snapshots, address])

@@ -500,7 +500,8 @@ def wrong_words():
     with place_of() as (folder, repository, restored):
         file = os.path.join(folder, "large")
         cases = (
-            (["save", repository, restored], 3, restored), (["save", file, folder], 3, file), (["save", repository, file], 3, file), (["check", restored], 3, restored), (["check", "--program", restored, repository], 3, restored),
+            (["save", repository, restored], 3, restored), (["save", file, folder], 3, file), (["save", repository, file], 3, file), (["save", repository, repository], 3, repository),
+            (["check", restored], 3, restored), (["check", "--program", restored, repository], 3, restored),
             (["restore", repository, "latest", file], 3, file), (["save", "", folder], 3, ""), (["restore", repository, "latest", ""], 3, ""),
             (["frob", repository], 2, "'frob'"), (["save", repository], 2, "FOLDER"), ([], 2, "COMMAND"), (["list", repository, "a", "b"], 2, "b"),
         )
