@@ -7,29 +7,25 @@ from typing import BinaryIO, Callable, Optional
 
 from .values import StoreError
 
-SECONDS_BETWEEN_TRIES = 0.05
-
 
 class FolderInUse(StoreError):
     """Another process has locked a folder."""
 
 
 def lock_folder(path: str, seconds: float = 0, is_shared: bool = False) -> int:
-    """Opens a folder, and locks it until the descriptor is closed or the process ends. Several may share it. Raises FolderInUse if another process keeps it
-    locked for so long."""
-    lock = fcntl.LOCK_SH if is_shared else fcntl.LOCK_EX
+    """Opens a folder, and locks it until the descriptor is closed or the process ends; several may share it. Raises FolderInUse if it stays locked."""
     folder, end = os.open(path, os.O_RDONLY | os.O_DIRECTORY), time.monotonic() + seconds
     with contextlib.ExitStack() as failing:
         failing.callback(os.close, folder)
         while True:
             try:
-                fcntl.flock(folder, lock | fcntl.LOCK_NB)
+                fcntl.flock(folder, (fcntl.LOCK_SH if is_shared else fcntl.LOCK_EX) | fcntl.LOCK_NB)
                 failing.pop_all()
                 return folder
             except BlockingIOError:
                 if time.monotonic() >= end:
                     raise FolderInUse(f"{path} is in use by another process") from None
-            time.sleep(SECONDS_BETWEEN_TRIES)
+            time.sleep(0.05)
 
 
 def create_anew(folder: int, name: str) -> BinaryIO:
