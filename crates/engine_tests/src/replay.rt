@@ -2,8 +2,9 @@
 
 use std::alloc::Global;
 use std::collections::BTreeMap;
+use std::test::Fail;
 use store_journal::{
-    Address, ObjectLabel, Replayed, ReplayedUpload, TenantId, read_journal, replay,
+    Address, ObjectLabel, Replayed, ReplayedUpload, TenantId, read_journal, replay, write_journal,
 };
 
 // Has every kind of entry but a forget entry; leaves an upload with a closed plan, one without an end, and one whose end is below its
@@ -129,9 +130,7 @@ fn are_uploads(replayed: &Replayed) -> bool {
 // Whether everything that is left is what the journal leaves.
 fn is_left(alloc: Global, replayed: &Replayed) -> bool {
     let accepted = replayed.accepted();
-    let are_sums = accepted.bytes == 1035
-        && accepted.calls == 4
-        && replayed.totals().object_bytes == 5;
+    let are_sums = accepted.bytes == 1035 && accepted.calls == 4;
     are_sums && are_limits(replayed) && are_objects(alloc, replayed) && are_uploads(replayed)
 }
 
@@ -140,4 +139,17 @@ fn all_that_a_journal_leaves_is_listed(rt: HostRuntime) {
     let entries = read_journal(rt.alloc(), ENTRIES.as_bytes()).expect(&rt, "a journal");
     let replayed = replay(rt.alloc(), entries.as_slice()).expect(&rt, "a legal journal");
     assert!(rt; is_left(rt.alloc(), &replayed));
+}
+
+#[test]
+fn a_journal_is_written_again(rt: HostRuntime) -> Result<(), Fail> {
+    let alloc = rt.alloc();
+    let text = ENTRIES.as_bytes();
+    let entries = read_journal(alloc, text)?;
+    let replayed = replay(alloc, entries.as_slice())?;
+    let totals = replayed.totals();
+    let mut copy = Vec::new(alloc);
+    write_journal(entries.as_slice(), &mut copy)?;
+    assert!(rt; copy.as_slice() == text && totals.object_bytes == 5);
+    Ok(())
 }
