@@ -88,8 +88,15 @@ class Cache:
 
     def read(self, entry, room, offset):
         """Fills a writable buffer with bytes of an entry that is being read. Raises Refused, for S14."""
-        with self.lock:
-            return self.store.fetch_into(CONTENT, entry.address, room, offset)
+        while True:
+            store = self.store
+            try:
+                return store.fetch_into(CONTENT, entry.address, room, offset)
+            except (Refused, ValueError):
+                # the content may have moved to a new store meanwhile
+                with self.lock:
+                    if store is self.store:
+                        raise
 
     def put(self, key, file, length):
         """Stores the content of a file under a key. The least recently used keys are evicted if there is no room. Raises Declined."""
