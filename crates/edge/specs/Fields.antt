@@ -46,3 +46,19 @@ three_numbers_at fields = do
   first ← number_at cut.0
   others ← two_numbers_at cut.1
   Some (first, others.0, others.1)
+
+-- what is made of one number, of two or of three
+abbrev pub of_one : {A : Type 0} → (ℕ → A) → List ℕ → Option A
+of_one make fields = do
+  number ← number_at fields
+  Some (make number)
+
+abbrev pub of_two : {A : Type 0} → (ℕ → ℕ → A) → List ℕ → Option A
+of_two make fields = do
+  numbers ← two_numbers_at fields
+  Some (make numbers.0 numbers.1)
+
+abbrev pub of_three : {A : Type 0} → (ℕ → ℕ → ℕ → A) → List ℕ → Option A
+of_three make fields = do
+  numbers ← three_numbers_at fields
+  Some (make numbers.0 numbers.1 numbers.2)

@@ -7,15 +7,15 @@ use Rattle.std.proofs.lemmas.Bool.{leb-true, le-leb}
 use Rattle.std.proofs.lemmas.Slice.Eq.{bytes_eq-Decides}
 use Rattle.hex.specs.Hex.{decode_of, decode_sized}
 use Rattle.hex.specs.declared.error.FromHexError.{FromHexError}
-use Rattle.edge.specs.Fields.{split_at, number_at, space, three_fields, two_fields, two_numbers_at}
+use Rattle.edge.specs.Fields.{split_at, number_at, space, three_fields, two_fields}
 use Rattle.store_core.specs.declared.command.Command.{Command}
 use Rattle.store_core.specs.declared.command.Command.TheVariants as commands
 use Rattle.store_core.specs.declared.store.questions.Question.{Question}
 use Rattle.store_core.specs.declared.store.questions.Question.TheVariants as questions
-use Rattle.edge.proofs.FieldTexts.{split_again, split_found, decimal_spaceless, number_again, two_again, two_found}
-use Rattle.edge.proofs.Steps.{bind_is, bind_some, chosen, none_some, some_is}
+use Rattle.edge.proofs.FieldTexts.{split_again, split_found, decimal_spaceless, number_again, one_again, one_found, pair_again, pair_found}
+use Rattle.edge.proofs.Steps.{bind_is, bind_some, by_kind, chosen, none_some, some_is}
 use Rattle.edge.proofs.Numbers.{read_back}
-use Rattle.store_lines.specs.Grammar.{abort_command, address_of_digits, script_request_of_kind, begin_command, begin_open_command, bytes_of_kind, colon, command_at, decoded, digits_at, fetch_command, fix_command, forget_command, held_at, list_command, max_digits, max_pattern, open_tenant_command, part_bytes_at, pattern_at, pattern_of, puts_at, seal_as_command, seal_command, set_limit_command, split_line_at, usage_command, whole_journal, word_command}
+use Rattle.store_lines.specs.Grammar.{address_of_digits, by_word, bytes_of_kind, colon, command_at, command_forms, command_or, decoded, digits_at, held_at, max_digits, max_pattern, of_held, part_bytes_at, pattern_at, pattern_of, puts_at, question_forms, script_request_of_kind, split_line_at, whole_journal, word_command}
 use Rattle.store_lines.specs.declared.request.EntryRange.{EntryRange}
 use Rattle.store_lines.specs.declared.request.Request.{Request}
 use Rattle.store_lines.specs.declared.request.Request.TheVariants.{Asks, Does, Entries, Put}
@@ -54,93 +54,57 @@ held_again number digits address lt read =
     bind_is (split_at space (two_fields (decimal number) digits)) _ (decimal number, digits) (split_again space (decimal number) digits (decimal_spaceless number lt))
     ∙ bind_is (number_at (decimal number)) _ number (number_again number lt) ∙ bind_is (address_of_digits digits) _ address (address_again digits address read)
 
--- ---- commands of one number, of two, and of a number and an address
+held_form_found : {A : Type 0} (P : List ℕ → A → Type 0) (fields : List ℕ) (make : ℕ → List ℕ → A) (x : A)
+    → ((n : ℕ) (digits address : List ℕ) → n < 2 ^ 64 → decode_sized digits 32 ≡ Ok address → P (two_fields (decimal n) digits) (make n address)) → of_held make fields ≡ Some x → P fields x
+held_form_found P fields make x f h =
+    let held = bind_some (held_at fields) _ x h in
+    let t = held_found fields held.0 held.1 in
+    subst (λ (w : List ℕ). P w x) (sym t.1) (subst (P (two_fields (decimal held.0.0) t.0)) (some_is _ _ held.2) (f held.0.0 t.0 held.0.1 t.2 t.3))
 
-one_found : (word fields : List ℕ) (ask : ℕ → Request) (command : Request) → ((n : ℕ) → (word ++ fields ≡ word ++ decimal n) × (n < 2 ^ 64) → IsSpelled (word ++ fields) (ask n))
-    → (n : ℕ) × (number_at fields ≡ Some n) × (Some (ask n) ≡ Some command) → IsSpelled (word ++ fields) command
-one_found word fields ask command f n =
-    let read = read_back fields n.0 n.1 in
-    subst (IsSpelled (word ++ fields)) (some_is _ _ n.2) (f n.0 (ap (λ (w : List ℕ). word ++ w) (sym read.0), read.1))
+held_form_again : {A : Type 0} (make : ℕ → List ℕ → A) (n : ℕ) (digits address : List ℕ) → n < 2 ^ 64 → decode_sized digits 32 ≡ Ok address → of_held make (two_fields (decimal n) digits) ≡ Some (make n address)
+held_form_again make n digits address lt is = bind_is (held_at (two_fields (decimal n) digits)) _ (n, address) (held_again n digits address lt is)
 
-two_numbers_found : (word fields : List ℕ) (ask : ℕ → ℕ → Request) (command : Request) → ((a b : ℕ) → (word ++ fields ≡ word ++ two_fields (decimal a) (decimal b)) × (a < 2 ^ 64) × (b < 2 ^ 64) → IsSpelled (word ++ fields) (ask a b))
-    → (x : ℕ × ℕ) × (two_numbers_at fields ≡ Some x) × (Some (ask x.0 x.1) ≡ Some command) → IsSpelled (word ++ fields) command
-two_numbers_found word fields ask command f x =
-    let read = two_found fields x.0 x.1 in
-    subst (IsSpelled (word ++ fields)) (some_is _ _ x.2) (f x.0.0 x.0.1 (ap (λ (w : List ℕ). word ++ w) (sym read.0), read.1, read.2))
+-- ---- commands and questions
 
-held_command_found : (word fields : List ℕ) (ask : ℕ → List ℕ → Request) (command : Request)
-    → ((n : ℕ) (address : List ℕ) → (digits : List ℕ) × (word ++ fields ≡ word ++ two_fields (decimal n) digits) × (n < 2 ^ 64) × (decode_sized digits 32 ≡ Ok address) → IsSpelled (word ++ fields) (ask n address))
-    → (x : ℕ × List ℕ) × (held_at fields ≡ Some x) × (Some (ask x.0 x.1) ≡ Some command) → IsSpelled (word ++ fields) command
-held_command_found word fields ask command f x =
-    let read = held_found fields x.0 x.1 in
-    subst (IsSpelled (word ++ fields)) (some_is _ _ x.2) (f x.0.0 x.0.1 (read.0, ap (λ (w : List ℕ). word ++ w) read.1, read.2, read.3))
+-- the command is spelled by the word and the fields, or the question is
+abbrev DoesBy : List ℕ → List ℕ → Command → Type 0
+DoesBy word fields command = SpellsCommand (word ++ space ∷ fields) command
 
--- ---- one word after another
+abbrev AsksBy : List ℕ → List ℕ → Question → Type 0
+AsksBy word fields question = SpellsQuestion (word ++ space ∷ fields) question
 
--- the command is spelled by the word and the fields
-abbrev IsBy : List ℕ → List ℕ → Request → Type 0
-IsBy kind fields command = IsSpelled (kind ++ space ∷ fields) command
+command_found : (word fields : List ℕ) (x : Command) → by_word command_forms word fields ≡ Some x → DoesBy word fields x
+command_found word fields x =
+    let by = by_kind (λ w. DoesBy w fields x) word in
+    by (codes "tenant") _ _ x (one_found (DoesBy (codes "tenant")) fields _ x (λ n lt. (refl, lt)))
+    (by (codes "limit") _ _ x (pair_found (DoesBy (codes "limit")) fields _ x (λ a b la lb. (refl, la, lb)))
+    (by (codes "begin") _ _ x (pair_found (DoesBy (codes "begin")) fields _ x (λ a b la lb. (refl, la, lb)))
+    (by (codes "open") _ _ x (pair_found (DoesBy (codes "open")) fields _ x (λ a b la lb. (refl, la, lb)))
+    (by (codes "fix") _ _ x (pair_found (DoesBy (codes "fix")) fields _ x (λ a b la lb. (refl, la, lb)))
+    (by (codes "seal") _ _ x (one_found (DoesBy (codes "seal")) fields _ x (λ n lt. (refl, lt)))
+    (by (codes "sealas") _ _ x (held_form_found (DoesBy (codes "sealas")) fields _ x (λ n digits address lt is. (digits, refl, lt, is)))
+    (by (codes "abort") _ _ x (one_found (DoesBy (codes "abort")) fields _ x (λ n lt. (refl, lt)))
+    (by (codes "forget") _ _ x (held_form_found (DoesBy (codes "forget")) fields _ x (λ n digits address lt is. (digits, refl, lt, is)))
+    (λ h. absurd (none_some x h))))))))))
 
-by_kind : (kind word fields : List ℕ) (this other : Option Request) (command : Request) → (this ≡ Some command → IsBy word fields command) → (other ≡ Some command → IsBy kind fields command)
-    → cond (bytes_eq kind word) this other ≡ Some command → IsBy kind fields command
-by_kind kind word fields this other command f g h =
-    elim (chosen (bytes_eq kind word) this other (Some command) h) [
-      | inl p ↦ subst (λ (w : List ℕ). IsBy w fields command) (sym ((bytes_eq-Decides kind word).0 p.0)) (f p.1)
-      | inr p ↦ g p.1
-    ]
+question_found : (word fields : List ℕ) (x : Question) → by_word question_forms word fields ≡ Some x → AsksBy word fields x
+question_found word fields x =
+    let by = by_kind (λ w. AsksBy w fields x) word in
+    by (codes "fetch") _ _ x (held_form_found (AsksBy (codes "fetch")) fields _ x (λ n digits address lt is. (digits, refl, lt, is)))
+    (by (codes "usage") _ _ x (one_found (AsksBy (codes "usage")) fields _ x (λ n lt. (refl, lt)))
+    (by (codes "list") _ _ x (one_found (AsksBy (codes "list")) fields _ x (λ n lt. (refl, lt)))
+    (λ h. absurd (none_some x h))))
 
-tenant_found : (fields : List ℕ) (command : Request) → open_tenant_command fields ≡ Some command → IsBy (codes "tenant") fields command
-tenant_found fields command h = one_found (codes "tenant ") fields (λ n. Does (commands.OpenTenant n)) command (λ n k. k) (bind_some (number_at fields) _ command h)
+-- what holds of the command, or else of the question
+pub or_found : (P : Request → Type 0) (c : Option Command) (q : Option Question) (request : Request) → ((x : Command) → c ≡ Some x → P (Does x)) → ((x : Question) → q ≡ Some x → P (Asks x))
+    → command_or c q ≡ Some request → P request
+or_found P (Some x) q request f g h = subst P (some_is _ _ h) (f x refl)
+or_found P None (Some x) request f g h = subst P (some_is _ _ h) (g x refl)
+or_found P None None request f g h = absurd (none_some request h)
 
-seal_found : (fields : List ℕ) (command : Request) → seal_command fields ≡ Some command → IsBy (codes "seal") fields command
-seal_found fields command h = one_found (codes "seal ") fields (λ n. Does (commands.Seal n)) command (λ n k. k) (bind_some (number_at fields) _ command h)
-
-abort_found : (fields : List ℕ) (command : Request) → abort_command fields ≡ Some command → IsBy (codes "abort") fields command
-abort_found fields command h = one_found (codes "abort ") fields (λ n. Does (commands.Abort n)) command (λ n k. k) (bind_some (number_at fields) _ command h)
-
-usage_found : (fields : List ℕ) (command : Request) → usage_command fields ≡ Some command → IsBy (codes "usage") fields command
-usage_found fields command h = one_found (codes "usage ") fields (λ n. Asks (questions.Usage n)) command (λ n k. k) (bind_some (number_at fields) _ command h)
-
-list_found : (fields : List ℕ) (command : Request) → list_command fields ≡ Some command → IsBy (codes "list") fields command
-list_found fields command h = one_found (codes "list ") fields (λ n. Asks (questions.List n)) command (λ n k. k) (bind_some (number_at fields) _ command h)
-
-limit_found : (fields : List ℕ) (command : Request) → set_limit_command fields ≡ Some command → IsBy (codes "limit") fields command
-limit_found fields command h = two_numbers_found (codes "limit ") fields (λ a b. Does (commands.SetLimit a b)) command (λ a b k. k) (bind_some (two_numbers_at fields) _ command h)
-
-begin_found : (fields : List ℕ) (command : Request) → begin_command fields ≡ Some command → IsBy (codes "begin") fields command
-begin_found fields command h = two_numbers_found (codes "begin ") fields (λ a b. Does (commands.Begin a b)) command (λ a b k. k) (bind_some (two_numbers_at fields) _ command h)
-
-open_found : (fields : List ℕ) (command : Request) → begin_open_command fields ≡ Some command → IsBy (codes "open") fields command
-open_found fields command h = two_numbers_found (codes "open ") fields (λ a b. Does (commands.BeginOpen a b)) command (λ a b k. k) (bind_some (two_numbers_at fields) _ command h)
-
-fix_found : (fields : List ℕ) (command : Request) → fix_command fields ≡ Some command → IsBy (codes "fix") fields command
-fix_found fields command h = two_numbers_found (codes "fix ") fields (λ a b. Does (commands.Fix a b)) command (λ a b k. k) (bind_some (two_numbers_at fields) _ command h)
-
-sealas_found : (fields : List ℕ) (command : Request) → seal_as_command fields ≡ Some command → IsBy (codes "sealas") fields command
-sealas_found fields command h = held_command_found (codes "sealas ") fields (λ n a. Does (commands.SealAs n a)) command (λ n a k. k) (bind_some (held_at fields) _ command h)
-
-forget_found : (fields : List ℕ) (command : Request) → forget_command fields ≡ Some command → IsBy (codes "forget") fields command
-forget_found fields command h = held_command_found (codes "forget ") fields (λ n a. Does (commands.Forget n a)) command (λ n a k. k) (bind_some (held_at fields) _ command h)
-
-fetch_found : (fields : List ℕ) (command : Request) → fetch_command fields ≡ Some command → IsBy (codes "fetch") fields command
-fetch_found fields command h = held_command_found (codes "fetch ") fields (λ n a. Asks (questions.Fetch n a)) command (λ n a k. k) (bind_some (held_at fields) _ command h)
-
-script_request_found : (kind fields : List ℕ) (command : Request) → script_request_of_kind kind fields ≡ Some command → IsBy kind fields command
+script_request_found : (word fields : List ℕ) (request : Request) → script_request_of_kind word fields ≡ Some request → IsSpelled (word ++ space ∷ fields) request
 unfolding script_request_of_kind
-script_request_found kind fields command =
-    by_kind kind (codes "tenant") fields _ _ command (tenant_found fields command)
-    (by_kind kind (codes "limit") fields _ _ command (limit_found fields command)
-    (by_kind kind (codes "begin") fields _ _ command (begin_found fields command)
-    (by_kind kind (codes "open") fields _ _ command (open_found fields command)
-    (by_kind kind (codes "fix") fields _ _ command (fix_found fields command)
-    (by_kind kind (codes "seal") fields _ _ command (seal_found fields command)
-    (by_kind kind (codes "sealas") fields _ _ command (sealas_found fields command)
-    (by_kind kind (codes "abort") fields _ _ command (abort_found fields command)
-    (by_kind kind (codes "forget") fields _ _ command (forget_found fields command)
-    (by_kind kind (codes "fetch") fields _ _ command (fetch_found fields command)
-    (by_kind kind (codes "usage") fields _ _ command (usage_found fields command)
-    (by_kind kind (codes "list") fields _ _ command (list_found fields command)
-    (λ h. absurd (none_some command h)))))))))))))
+script_request_found word fields request = or_found (IsSpelled (word ++ space ∷ fields)) (by_word command_forms word fields) (by_word question_forms word fields) request (command_found word fields) (question_found word fields)
 
 word_found : (word : List ℕ) (command : Request) → word_command word ≡ Some command → IsSpelled word command
 word_found word command h =
@@ -246,30 +210,30 @@ puts_again upload offset field bytes u o part =
     ∙ bind_is (split_at space (two_fields (decimal offset) field)) _ (decimal offset, field) (split_again space (decimal offset) field (decimal_spaceless offset o))
     ∙ bind_is (number_at (decimal offset)) _ offset (number_again offset o) ∙ bind_is (part_bytes_at offset field) _ bytes (bytes_again offset field bytes part)
 
-done_again : (line : List ℕ) (command : Command) → SpellsCommand line command → command_at line ≡ Some (Does command)
+does_again : (line : List ℕ) (command : Command) → SpellsCommand line command → command_at line ≡ Some (Does command)
 unfolding split_line_at script_request_of_kind
-done_again line (commands.OpenTenant n) h = ap command_at h.0 ∙ bind_is (number_at (decimal n)) _ n (number_again n h.1)
-done_again line (commands.SetLimit a b) h = ap command_at h.0 ∙ bind_is (two_numbers_at (two_fields (decimal a) (decimal b))) _ (a, b) (two_again a b h.1 h.2)
-done_again line (commands.Begin a b) h = ap command_at h.0 ∙ bind_is (two_numbers_at (two_fields (decimal a) (decimal b))) _ (a, b) (two_again a b h.1 h.2)
-done_again line (commands.BeginOpen a b) h = ap command_at h.0 ∙ bind_is (two_numbers_at (two_fields (decimal a) (decimal b))) _ (a, b) (two_again a b h.1 h.2)
-done_again line (commands.Fix a b) h = ap command_at h.0 ∙ bind_is (two_numbers_at (two_fields (decimal a) (decimal b))) _ (a, b) (two_again a b h.1 h.2)
-done_again line (commands.Seal n) h = ap command_at h.0 ∙ bind_is (number_at (decimal n)) _ n (number_again n h.1)
-done_again line (commands.SealAs n a) h = ap command_at h.1 ∙ bind_is (held_at (two_fields (decimal n) h.0)) _ (n, a) (held_again n h.0 a h.2 h.3)
-done_again line (commands.Abort n) h = ap command_at h.0 ∙ bind_is (number_at (decimal n)) _ n (number_again n h.1)
-done_again line (commands.Forget n a) h = ap command_at h.1 ∙ bind_is (held_at (two_fields (decimal n) h.0)) _ (n, a) (held_again n h.0 a h.2 h.3)
+does_again line (commands.OpenTenant n) h = ap command_at h.0 ∙ ap (λ x. command_or x None) (one_again (λ n. commands.OpenTenant n) n h.1)
+does_again line (commands.SetLimit a b) h = ap command_at h.0 ∙ ap (λ x. command_or x None) (pair_again (λ a b. commands.SetLimit a b) a b h.1 h.2)
+does_again line (commands.Begin a b) h = ap command_at h.0 ∙ ap (λ x. command_or x None) (pair_again (λ a b. commands.Begin a b) a b h.1 h.2)
+does_again line (commands.BeginOpen a b) h = ap command_at h.0 ∙ ap (λ x. command_or x None) (pair_again (λ a b. commands.BeginOpen a b) a b h.1 h.2)
+does_again line (commands.Fix a b) h = ap command_at h.0 ∙ ap (λ x. command_or x None) (pair_again (λ a b. commands.Fix a b) a b h.1 h.2)
+does_again line (commands.Seal n) h = ap command_at h.0 ∙ ap (λ x. command_or x None) (one_again (λ n. commands.Seal n) n h.1)
+does_again line (commands.SealAs n a) h = ap command_at h.1 ∙ ap (λ x. command_or x None) (held_form_again (λ n a. commands.SealAs n a) n h.0 a h.2 h.3)
+does_again line (commands.Abort n) h = ap command_at h.0 ∙ ap (λ x. command_or x None) (one_again (λ n. commands.Abort n) n h.1)
+does_again line (commands.Forget n a) h = ap command_at h.1 ∙ ap (λ x. command_or x None) (held_form_again (λ n a. commands.Forget n a) n h.0 a h.2 h.3)
 
-asked_again : (line : List ℕ) (question : Question) → SpellsQuestion line question → command_at line ≡ Some (Asks question)
+asks_again : (line : List ℕ) (question : Question) → SpellsQuestion line question → command_at line ≡ Some (Asks question)
 unfolding split_line_at script_request_of_kind
-asked_again line (questions.Fetch n a) h = ap command_at h.1 ∙ bind_is (held_at (two_fields (decimal n) h.0)) _ (n, a) (held_again n h.0 a h.2 h.3)
-asked_again line (questions.Usage n) h = ap command_at h.0 ∙ bind_is (number_at (decimal n)) _ n (number_again n h.1)
-asked_again line (questions.List n) h = ap command_at h.0 ∙ bind_is (number_at (decimal n)) _ n (number_again n h.1)
-asked_again line questions.Totals h = ap command_at h
-asked_again line _ h = absurd h
+asks_again line (questions.Fetch n a) h = ap command_at h.1 ∙ ap (command_or None) (held_form_again (λ n a. questions.Fetch n a) n h.0 a h.2 h.3)
+asks_again line (questions.Usage n) h = ap command_at h.0 ∙ ap (command_or None) (one_again (λ n. questions.Usage n) n h.1)
+asks_again line (questions.List n) h = ap command_at h.0 ∙ ap (command_or None) (one_again (λ n. questions.List n) n h.1)
+asks_again line questions.Totals h = ap command_at h
+asks_again line _ h = absurd h
 
 pub again : (line : List ℕ) (command : Request) → IsSpelled line command → command_at line ≡ Some command
 unfolding split_line_at
-again line (Does command) h = done_again line command h
-again line (Asks question) h = asked_again line question h
+again line (Does command) h = does_again line command h
+again line (Asks question) h = asks_again line question h
 again line (Put part) h = ap command_at h.1 ∙ puts_again part.upload part.offset h.0 part.bytes h.2 h.3 h.4
 again line (Entries range) h = ap command_at h.0 ∙ ap (λ (r : EntryRange). Some (Entries r)) (sym h.1)
 again line _ h = absurd h

@@ -1,10 +1,12 @@
 -- The first words of lines with a command.
-use Rattle.std.proofs.Common.{◌≡◌, List, Option, Some, None, codes, cond, inl, inr, refl, subst, sym, ℕ}
+use Rattle.std.proofs.Common.{◌≡◌, List, Option, Some, None, codes, cond, refl, ℕ}
 use Rattle.std.specs.Str.{bytes_eq}
-use Rattle.std.proofs.lemmas.Slice.Eq.{bytes_eq-Decides}
 use Rattle.edge.specs.Fields.{split_at, space}
-use Rattle.edge.proofs.Steps.{chosen, none_some}
-use Rattle.store_lines.specs.Grammar.{puts_at, script_request_of_kind, split_line_at, word_command, word_fault, word_of}
+use Rattle.edge.proofs.Steps.{by_kind, none_some}
+use Rattle.store_lines.specs.Grammar.{by_word, command_forms, puts_at, question_forms, script_request_of_kind, split_line_at, word_command, word_fault, word_of}
+use Rattle.store_core.specs.declared.command.Command.{Command}
+use Rattle.store_core.specs.declared.store.questions.Question.{Question}
+use Rattle.store_lines.proofs.Read.{or_found}
 use Rattle.store_lines.specs.Spelling.{WordsAreKnown}
 use Rattle.store_lines.specs.declared.bad_lines.LineFault.TheVariants.{BadFields}
 use Rattle.store_lines.specs.declared.request.Request.{Request}
@@ -13,28 +15,34 @@ abbrev IsKnown : List ℕ → Type 0
 IsKnown word = word_fault word ≡ BadFields
 
 -- the word is this one, which is known, or the others decide
-known_or : (kind word : List ℕ) (this other : Option Request) (request : Request) → IsKnown word → (other ≡ Some request → IsKnown kind) → cond (bytes_eq kind word) this other ≡ Some request → IsKnown kind
-known_or kind word this other request known later h = elim (chosen (bytes_eq kind word) this other (Some request) h) [
-  | inl p ↦ subst IsKnown (sym ((bytes_eq-Decides kind word).0 p.0)) known
-  | inr p ↦ later p.1
-]
+known_or : {A : Type 0} (kind word : List ℕ) (this other : Option A) (x : A) → IsKnown word → (other ≡ Some x → IsKnown kind) → cond (bytes_eq kind word) this other ≡ Some x → IsKnown kind
+known_or kind word this other x known = by_kind IsKnown kind word this other x (λ _. known)
+
+does_known : (kind fields : List ℕ) (x : Command) → by_word command_forms kind fields ≡ Some x → IsKnown kind
+unfolding word_fault
+does_known kind fields x =
+    known_or kind (codes "tenant") _ _ x refl
+    (known_or kind (codes "limit") _ _ x refl
+    (known_or kind (codes "begin") _ _ x refl
+    (known_or kind (codes "open") _ _ x refl
+    (known_or kind (codes "fix") _ _ x refl
+    (known_or kind (codes "seal") _ _ x refl
+    (known_or kind (codes "sealas") _ _ x refl
+    (known_or kind (codes "abort") _ _ x refl
+    (known_or kind (codes "forget") _ _ x refl
+    (λ h. absurd (none_some x h))))))))))
+
+asks_known : (kind fields : List ℕ) (x : Question) → by_word question_forms kind fields ≡ Some x → IsKnown kind
+unfolding word_fault
+asks_known kind fields x =
+    known_or kind (codes "fetch") _ _ x refl
+    (known_or kind (codes "usage") _ _ x refl
+    (known_or kind (codes "list") _ _ x refl
+    (λ h. absurd (none_some x h))))
 
 kind_known : (kind fields : List ℕ) (request : Request) → script_request_of_kind kind fields ≡ Some request → IsKnown kind
-unfolding script_request_of_kind word_fault
-kind_known kind fields request =
-    known_or kind (codes "tenant") _ _ request refl
-    (known_or kind (codes "limit") _ _ request refl
-    (known_or kind (codes "begin") _ _ request refl
-    (known_or kind (codes "open") _ _ request refl
-    (known_or kind (codes "fix") _ _ request refl
-    (known_or kind (codes "seal") _ _ request refl
-    (known_or kind (codes "sealas") _ _ request refl
-    (known_or kind (codes "abort") _ _ request refl
-    (known_or kind (codes "forget") _ _ request refl
-    (known_or kind (codes "fetch") _ _ request refl
-    (known_or kind (codes "usage") _ _ request refl
-    (known_or kind (codes "list") _ _ request refl
-    (λ h. absurd (none_some request h)))))))))))))
+unfolding script_request_of_kind
+kind_known kind fields request = or_found (λ _. IsKnown kind) (by_word command_forms kind fields) (by_word question_forms kind fields) request (does_known kind fields) (asks_known kind fields)
 
 word_known : (word : List ℕ) (request : Request) → word_command word ≡ Some request → IsKnown word
 unfolding word_fault

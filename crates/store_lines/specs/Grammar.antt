@@ -1,11 +1,13 @@
 -- The requests of the lines of a script.
-use Rattle.std.specs.Prelude.{ℕ, zero, suc, ◌+◌, ◌%◌, List, [], ◌∷◌, ◌++◌, Option, Some, None, Result, Ok, Err, if◌then◌else◌, nat_le, codes, length, map}
+use Rattle.std.specs.Prelude.{ℕ, zero, suc, ◌+◌, ◌%◌, List, [], ◌∷◌, ◌++◌, Option, Some, None, Result, Ok, Err, if◌then◌else◌, nat_le, codes, length, map, option_map}
 use Rattle.std.specs.List.{list_any}
 use Rattle.std.specs.Str.{bytes_eq}
 use Rattle.hex.specs.Hex.{decode_of, decode_sized}
 use Rattle.hex.specs.declared.error.FromHexError.{FromHexError}
-use Rattle.edge.specs.Fields.{◌>>=◌, split_at, number_at, space, two_numbers_at}
+use Rattle.edge.specs.Fields.{◌>>=◌, split_at, number_at, of_one, of_two, space}
+use Rattle.store_core.specs.declared.command.Command.{Command}
 use Rattle.store_core.specs.declared.command.Command.TheVariants as commands
+use Rattle.store_core.specs.declared.store.questions.Question.{Question}
 use Rattle.store_core.specs.declared.store.questions.Question.TheVariants as questions
 use Rattle.store_lines.specs.declared.bad_lines.LineFault.{LineFault}
 use Rattle.store_lines.specs.declared.bad_lines.LineFault.TheVariants.{BadFields, UnknownCommand}
@@ -35,6 +37,12 @@ held_at fields = do
   number ← number_at cut.0
   address ← address_of_digits cut.1
   Some (number, address)
+
+-- what is made of these
+abbrev pub of_held : {A : Type 0} → (ℕ → List ℕ → A) → List ℕ → Option A
+of_held make fields = do
+  held ← held_at fields
+  Some (make held.0 held.1)
 
 -- ---- the bytes of a part
 
@@ -86,81 +94,42 @@ puts_at fields = do
 
 -- ---- a line
 
--- the command for the fields after each word
-abbrev pub open_tenant_command : List ℕ → Option Request
-open_tenant_command fields = do
-  limit ← number_at fields
-  Some (Does (commands.OpenTenant limit))
+-- what the fields after a word are read as, for each of these words
+abbrev pub Forms : Type 0 → Type 0
+Forms A = List (List ℕ × (List ℕ → Option A))
 
-abbrev pub set_limit_command : List ℕ → Option Request
-set_limit_command fields = do
-  numbers ← two_numbers_at fields
-  Some (Does (commands.SetLimit numbers.0 numbers.1))
+abbrev pub command_forms : Forms Command
+command_forms =
+    (codes "tenant", of_one (λ limit. commands.OpenTenant limit))
+    ∷ (codes "limit", of_two (λ tenant limit. commands.SetLimit tenant limit))
+    ∷ (codes "begin", of_two (λ tenant len. commands.Begin tenant len))
+    ∷ (codes "open", of_two (λ tenant at_most. commands.BeginOpen tenant at_most))
+    ∷ (codes "fix", of_two (λ upload len. commands.Fix upload len))
+    ∷ (codes "seal", of_one (λ upload. commands.Seal upload))
+    ∷ (codes "sealas", of_held (λ upload address. commands.SealAs upload address))
+    ∷ (codes "abort", of_one (λ upload. commands.Abort upload))
+    ∷ (codes "forget", of_held (λ tenant address. commands.Forget tenant address))
+    ∷ []
 
-abbrev pub begin_command : List ℕ → Option Request
-begin_command fields = do
-  numbers ← two_numbers_at fields
-  Some (Does (commands.Begin numbers.0 numbers.1))
+abbrev pub question_forms : Forms Question
+question_forms =
+    (codes "fetch", of_held (λ tenant address. questions.Fetch tenant address))
+    ∷ (codes "usage", of_one (λ tenant. questions.Usage tenant))
+    ∷ (codes "list", of_one (λ tenant. questions.List tenant))
+    ∷ []
 
-abbrev pub begin_open_command : List ℕ → Option Request
-begin_open_command fields = do
-  numbers ← two_numbers_at fields
-  Some (Does (commands.BeginOpen numbers.0 numbers.1))
+-- what the fields after a word are read as
+abbrev pub by_word : {A : Type 0} → Forms A → List ℕ → List ℕ → Option A
+by_word [] word fields = None
+by_word (form ∷ others) word fields = if bytes_eq word form.0 then form.1 fields else by_word others word fields
 
-abbrev pub fix_command : List ℕ → Option Request
-fix_command fields = do
-  numbers ← two_numbers_at fields
-  Some (Does (commands.Fix numbers.0 numbers.1))
-
-abbrev pub seal_command : List ℕ → Option Request
-seal_command fields = do
-  upload ← number_at fields
-  Some (Does (commands.Seal upload))
-
-abbrev pub seal_as_command : List ℕ → Option Request
-seal_as_command fields = do
-  held ← held_at fields
-  Some (Does (commands.SealAs held.0 held.1))
-
-abbrev pub abort_command : List ℕ → Option Request
-abort_command fields = do
-  upload ← number_at fields
-  Some (Does (commands.Abort upload))
-
-abbrev pub forget_command : List ℕ → Option Request
-forget_command fields = do
-  held ← held_at fields
-  Some (Does (commands.Forget held.0 held.1))
-
-abbrev pub fetch_command : List ℕ → Option Request
-fetch_command fields = do
-  held ← held_at fields
-  Some (Asks (questions.Fetch held.0 held.1))
-
-abbrev pub usage_command : List ℕ → Option Request
-usage_command fields = do
-  tenant ← number_at fields
-  Some (Asks (questions.Usage tenant))
-
-abbrev pub list_command : List ℕ → Option Request
-list_command fields = do
-  tenant ← number_at fields
-  Some (Asks (questions.List tenant))
-
--- the command for the fields after each of these words
-abbrev pub forms : List (List ℕ × (List ℕ → Option Request))
-forms =
-    (codes "tenant", open_tenant_command) ∷ (codes "limit", set_limit_command) ∷ (codes "begin", begin_command) ∷ (codes "open", begin_open_command)
-    ∷ (codes "fix", fix_command) ∷ (codes "seal", seal_command) ∷ (codes "sealas", seal_as_command) ∷ (codes "abort", abort_command)
-    ∷ (codes "forget", forget_command) ∷ (codes "fetch", fetch_command) ∷ (codes "usage", usage_command) ∷ (codes "list", list_command) ∷ []
-
--- the command of a word and the fields after it
-abbrev pub command_by : List (List ℕ × (List ℕ → Option Request)) → List ℕ → List ℕ → Option Request
-command_by [] kind fields = None
-command_by (form ∷ others) kind fields = if bytes_eq kind form.0 then form.1 fields else command_by others kind fields
+-- the command, or else the question
+abbrev pub command_or : Option Command → Option Question → Option Request
+command_or (Some command) question = Some (Does command)
+command_or None question = option_map (λ q. Asks q) question
 
 unfoldable pub script_request_of_kind : List ℕ → List ℕ → Option Request
-script_request_of_kind kind fields = command_by forms kind fields
+script_request_of_kind word fields = command_or (by_word command_forms word fields) (by_word question_forms word fields)
 
 -- the command of a line that consists of one word
 abbrev pub word_command : List ℕ → Option Request
@@ -179,7 +148,7 @@ command_at line = split_line_at line (split_at space line)
 
 -- the first words of lines
 abbrev pub words : List (List ℕ)
-words = map (λ (form : List ℕ × (List ℕ → Option Request)). form.0) forms ++ codes "journal" ∷ codes "put" ∷ codes "stat" ∷ []
+words = map (λ form. form.0) command_forms ++ (map (λ form. form.0) question_forms ++ codes "journal" ∷ codes "put" ∷ codes "stat" ∷ [])
 
 -- the first word of a line that is split after it
 abbrev pub word_of : List ℕ → Option (List ℕ × List ℕ) → List ℕ

@@ -3,7 +3,7 @@ use Rattle.std.specs.Prelude.{ℕ, List, [], ◌∷◌, ◌++◌, ◌+◌, Optio
 use Rattle.std.specs.Fmt.{decimal}
 use Rattle.std.specs.List.{flat_map}
 use Rattle.std.specs.Str.{bytes_eq}
-use Rattle.edge.specs.Fields.{◌>>=◌, number_at, three_numbers_at, two_numbers_at}
+use Rattle.edge.specs.Fields.{of_one, of_three, of_two}
 use Rattle.hex.specs.Hex.{encode_lower}
 use Rattle.store_books.specs.declared.books.UploadStatus.{UploadStatus}
 use Rattle.store_books.specs.declared.books.Usage.{Usage}
@@ -12,51 +12,30 @@ use Rattle.store_books.specs.declared.totals.Totals.{Totals}
 use Rattle.store_books.specs.Refusals.{refusal_text}
 use Rattle.store_books.specs.Totals.{totals_text}
 use Rattle.store_core.specs.declared.store.questions.Counts.{Counts}
+use Rattle.store_core.specs.declared.store.questions.Question.{Question}
 use Rattle.store_core.specs.declared.store.questions.Question.TheVariants as questions
 use Rattle.store_core.specs.declared.store.questions.Reply.{Reply}
 use Rattle.store_core.specs.declared.store.questions.Reply.TheVariants as replies
-use Rattle.store_lines.specs.Grammar.{held_at}
+use Rattle.store_lines.specs.Grammar.{Forms, of_held}
 use Rattle.store_lines.specs.Redo.{redo_text}
 use Rattle.store_lines.specs.Texts.{held_text, numbered, refused_text, sealed_text}
-use Rattle.store_lines.specs.declared.request.Request.{Request}
-use Rattle.store_lines.specs.declared.request.Request.TheVariants.{Asks}
 
 -- ---- lines
 
-abbrev pub holds_at : List ℕ → Option Request
-holds_at fields = do
-  held ← held_at fields
-  Some (Asks (questions.Holds held.0 held.1))
-
-abbrev pub uploads_at : List ℕ → Option Request
-uploads_at fields = do
-  tenant ← number_at fields
-  Some (Asks (questions.Uploads tenant))
-
-abbrev pub objects_at : List ℕ → Option Request
-objects_at fields = do
-  numbers ← three_numbers_at fields
-  Some (Asks (questions.Objects numbers.0 numbers.1 numbers.2))
-
-abbrev pub redo_at : List ℕ → Option Request
-redo_at fields = do
-  numbers ← two_numbers_at fields
-  Some (Asks (questions.Redo numbers.0 numbers.1))
-
--- the question of a word and the fields after it
-unfoldable pub question_of_kind : List ℕ → List ℕ → Option Request
-question_of_kind kind fields =
-    if bytes_eq kind (codes "has") then holds_at fields
-    else if bytes_eq kind (codes "uploads") then uploads_at fields
-    else if bytes_eq kind (codes "objects") then objects_at fields
-    else if bytes_eq kind (codes "redo") then redo_at fields
-    else None
+-- the questions that only a session has
+abbrev pub session_forms : Forms Question
+session_forms =
+    (codes "has", of_held (λ tenant address. questions.Holds tenant address))
+    ∷ (codes "uploads", of_one (λ tenant. questions.Uploads tenant))
+    ∷ (codes "objects", of_three (λ tenant from count. questions.Objects tenant from count))
+    ∷ (codes "redo", of_two (λ from count. questions.Redo from count))
+    ∷ []
 
 -- the question of a line that consists of one word
-abbrev pub question_of_word : List ℕ → Option Request
+abbrev pub question_of_word : List ℕ → Option Question
 question_of_word word =
-    if bytes_eq word (codes "tenants") then Some (Asks questions.Tenants)
-    else if bytes_eq word (codes "counts") then Some (Asks questions.Counts)
+    if bytes_eq word (codes "tenants") then Some questions.Tenants
+    else if bytes_eq word (codes "counts") then Some questions.Counts
     else None
 
 -- ---- replies: each line with its newline

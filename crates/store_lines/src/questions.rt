@@ -4,14 +4,14 @@ ghost use Rattle.std.specs.Prelude.{◌≡◌, IfErr, OnErr, OnOk};
 ghost use Rattle.std.specs.Io.KnownBytes.{Appends};
 ghost use Rattle.std.specs.List.{flat_map};
 ghost use Rattle.edge.specs.Output.{WroteSome};
-ghost use Rattle.store_lines.specs.Questions.{answer_text, counts_line, holds_at, list_text, listed_line, object_text, open_upload_line, question_of_kind};
-ghost use Rattle.store_lines.specs.Questions.{question_of_word, redo_at, reply_text, tenant_line, tenant_lines, tenants_text, totals_line, uploads_at};
-ghost use Rattle.store_lines.specs.Questions.{objects_at, page_front, page_text, uploads_text, usage_text};
+ghost use Rattle.store_lines.specs.Grammar.{by_word};
+ghost use Rattle.store_lines.specs.Questions.{answer_text, counts_line, list_text, listed_line, object_text, open_upload_line};
+ghost use Rattle.store_lines.specs.Questions.{question_of_word, reply_text, session_forms, tenant_line, tenant_lines, tenants_text, totals_line};
+ghost use Rattle.store_lines.specs.Questions.{page_front, page_text, uploads_text, usage_text};
 
 use crate::digits::write_digits;
 use crate::parsing::number_and_address;
 use crate::redo::write_redo;
-use crate::request::Request;
 use crate::texts::{write_held, write_made, write_numbered, write_refusal, write_sealed};
 use edge::{Cause, number, three_numbers, two_numbers};
 use std::io::Write;
@@ -20,70 +20,44 @@ use store_core::{
 };
 
 /// The question of a line that consists of one word.
-pub(crate) fn question_of_word(word: &[u8]) -> Option<Request>
+pub(crate) fn question_of_word(word: &[u8]) -> Option<Question>
     ensures { result ≡ question_of_word word.now }
 {
     if word == b"tenants".as_slice() {
-        return Some(Request::Asks(Question::Tenants));
+        return Some(Question::Tenants);
     }
     if word == b"counts".as_slice() {
-        return Some(Request::Asks(Question::Counts));
+        return Some(Question::Counts);
     }
     None
 }
 
 /// The question of a word and the fields after it.
-#[tactic(auto, unfolding(crate::specs::Questions::question_of_kind))]
-pub(crate) fn question_of_kind(kind: &[u8], fields: &[u8]) -> Option<Request>
-    ensures { result ≡ question_of_kind kind.now fields.now }
+pub(crate) fn session_question(kind: &[u8], fields: &[u8]) -> Option<Question>
+    ensures { result ≡ by_word session_forms kind.now fields.now }
 {
     if kind == b"has".as_slice() {
-        return holds(fields);
+        return number_and_address(fields).map(|(tenant, address)| Question::Holds {
+            tenant: TenantId::new(tenant),
+            address,
+        });
     }
     if kind == b"uploads".as_slice() {
-        return uploads(fields);
+        return number(fields).map(|tenant| Question::Uploads {
+            tenant: TenantId::new(tenant),
+        });
     }
     if kind == b"objects".as_slice() {
-        return objects(fields);
+        return three_numbers(fields).map(|(tenant, from, count)| Question::Objects {
+            tenant: TenantId::new(tenant),
+            from,
+            count,
+        });
     }
     if kind == b"redo".as_slice() {
-        return redo(fields);
+        return two_numbers(fields).map(|(from, count)| Question::Redo { from, count });
     }
     None
-}
-
-fn holds(fields: &[u8]) -> Option<Request>
-    ensures { result ≡ holds_at fields.now }
-{
-    let (tenant, address) = number_and_address(fields)?;
-    let tenant = TenantId::new(tenant);
-    Some(Request::Asks(Question::Holds { tenant, address }))
-}
-
-fn uploads(fields: &[u8]) -> Option<Request>
-    ensures { result ≡ uploads_at fields.now }
-{
-    let tenant = TenantId::new(number(fields)?);
-    Some(Request::Asks(Question::Uploads { tenant }))
-}
-
-fn objects(fields: &[u8]) -> Option<Request>
-    ensures { result ≡ objects_at fields.now }
-{
-    let (tenant, from, count) = three_numbers(fields)?;
-    let tenant = TenantId::new(tenant);
-    Some(Request::Asks(Question::Objects {
-        tenant,
-        from,
-        count,
-    }))
-}
-
-fn redo(fields: &[u8]) -> Option<Request>
-    ensures { result ≡ redo_at fields.now }
-{
-    let (from, count) = two_numbers(fields)?;
-    Some(Request::Asks(Question::Redo { from, count }))
 }
 
 /// The answer to a step of the store.

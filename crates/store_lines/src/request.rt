@@ -1,13 +1,12 @@
 //! Reading the request of a line.
 
 ghost use Rattle.std.specs.Prelude.{◌≡◌};
-ghost use Rattle.edge.specs.Fields.{split_at};
-ghost use Rattle.store_lines.specs.Requests.{entries_at, fetch_at, fetch_of, file_as_at, file_at, raw_put_at, request_at, request_of_kind};
+ghost use Rattle.store_lines.specs.Requests.{entries_at, fetch_at, fetch_range_at, file_as_at, request_at, request_of_kind};
 ghost use Rattle.store_lines.specs.inner.Requests.{AsksFor};
 
 use crate::answer::without_end;
-use crate::parsing::address;
-use crate::questions::{question_of_kind, question_of_word};
+use crate::parsing::{address, number_and_address};
+use crate::questions::{question_of_word, session_question};
 use edge::{LineRead, number, split_at, three_numbers, two_numbers};
 use std::marker::Model;
 use store_core::{Address, Command, Question, TenantId, UploadId};
@@ -126,7 +125,7 @@ fn read_request(line: &[u8]) -> Option<Request>
 {
     match split_at(line, b' ') {
         Some((kind, fields)) => request_of_kind(kind, fields),
-        None => question_of_word(line),
+        None => question_of_word(line).map(|question| Request::Asks(question)),
     }
 }
 
@@ -135,10 +134,22 @@ fn request_of_kind(kind: &[u8], fields: &[u8]) -> Option<Request>
     ensures { result ≡ request_of_kind kind.now fields.now }
 {
     if kind == b"putb".as_slice() {
-        return put(fields);
+        return three_numbers(fields).map(|(upload, offset, len)| {
+            Request::PutRaw(RawPart {
+                upload: UploadId::new(upload),
+                offset,
+                len,
+            })
+        });
     }
     if kind == b"file".as_slice() {
-        return file(fields);
+        return two_numbers(fields).map(|(tenant, len)| {
+            Request::File(Filing {
+                tenant: TenantId::new(tenant),
+                address: None,
+                len,
+            })
+        });
     }
     if kind == b"fileas".as_slice() {
         return file_as(fields);
@@ -149,29 +160,7 @@ fn request_of_kind(kind: &[u8], fields: &[u8]) -> Option<Request>
     if kind == b"entries".as_slice() {
         return entries(fields);
     }
-    question_of_kind(kind, fields)
-}
-
-fn put(fields: &[u8]) -> Option<Request>
-    ensures { result ≡ raw_put_at fields.now }
-{
-    let (upload, offset, len) = three_numbers(fields)?;
-    Some(Request::PutRaw(RawPart {
-        upload: UploadId::new(upload),
-        offset,
-        len,
-    }))
-}
-
-fn file(fields: &[u8]) -> Option<Request>
-    ensures { result ≡ file_at fields.now }
-{
-    let (tenant, len) = two_numbers(fields)?;
-    Some(Request::File(Filing {
-        tenant: TenantId::new(tenant),
-        address: None,
-        len,
-    }))
+    session_question(kind, fields).map(|question| Request::Asks(question))
 }
 
 fn file_as(fields: &[u8]) -> Option<Request>
@@ -192,42 +181,41 @@ fn file_as(fields: &[u8]) -> Option<Request>
 fn fetch(fields: &[u8]) -> Option<Request>
     ensures { result ≡ fetch_at fields.now }
 {
-    let (tenant, field) = split_at(fields, b' ')?;
-    let tenant = number(tenant)?;
-    fetch_of(tenant, field)
+    if let Some(request) = fetch_range(fields) {
+        return Some(request);
+    }
+    let (tenant, address) = number_and_address(fields)?;
+    Some(Request::Fetch(Wanted {
+        tenant: TenantId::new(tenant),
+        address,
+        range: None,
+    }))
 }
 
-fn fetch_of(tenant: u64, field: &[u8]) -> Option<Request>
-    ensures { result ≡ fetch_of tenant field.now (split_at 32 field.now) }
+fn fetch_range(fields: &[u8]) -> Option<Request>
+    ensures { result ≡ fetch_range_at fields.now }
 {
-    let tenant = TenantId::new(tenant);
-    match split_at(field, b' ') {
-        None => {
-            let address = address(field)?;
-            Some(Request::Fetch(Wanted {
-                tenant,
-                address,
-                range: None,
-            }))
-        }
-        Some((digits, numbers)) => {
-            let address = address(digits)?;
-            let (from, len) = two_numbers(numbers)?;
-            Some(Request::Fetch(Wanted {
-                tenant,
-                address,
-                range: Some(Range { from, len }),
-            }))
-        }
-    }
+    let (tenant, others) = split_at(fields, b' ')?;
+    let tenant = TenantId::new(number(tenant)?);
+    let (digits, numbers) = split_at(others, b' ')?;
+    let address = address(digits)?;
+    let (from, len) = two_numbers(numbers)?;
+    Some(Request::Fetch(Wanted {
+        tenant,
+        address,
+        range: Some(Range { from, len }),
+    }))
 }
 
 fn entries(fields: &[u8]) -> Option<Request>
     ensures { result ≡ entries_at fields.now }
 {
-    let (from, count) = match split_at(fields, b' ') {
-        None => (number(fields)?, None),
-        Some((from, count)) => (number(from)?, Some(number(count)?)),
+    let (from, count) = match number(fields) {
+        Some(from) => (from, None),
+        None => {
+            let (from, count) = two_numbers(fields)?;
+            (from, Some(count))
+        }
     };
     Some(Request::Entries(EntryRange { from, count }))
 }
