@@ -2,7 +2,7 @@
 use denote.RattleType.{RattleType}
 use denote.Param.Send.{IsSend, IsSync, sendable}
 use Rattle.std.proofs.Crossing as heap
-use Rattle.store_history.specs.contracts.seats.Front as Front
+use Rattle.store_shared.specs.contracts.history.seats.Front as Front
 use Rattle.store_ledger.proofs.share.Share.TheSendSync.{the_send as share_send}
 use Rattle.store_ledger.specs.declared.ledgers.Ledgers.{Ghosts}
 use Rattle.store_shared.proofs.Crossing.{crosses}

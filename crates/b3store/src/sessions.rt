@@ -24,11 +24,10 @@ use std::thread::Threads;
 use std::{fs, io, thread};
 use store_command_line::{DoorOptions, ServeOptions};
 use store_core::{Limits, Store};
-use store_history::Front;
-use store_lease::Lease;
+use store_engines::SharedAccess;
 use store_ledger::{Ledgers, Share};
 use store_lines::{Access, UploadsAtEnd};
-use store_shared::{Shared, UnnamedLedgers};
+use store_shared::{Front, Shared, UnnamedLedgers};
 
 // The maximum length in bytes of a line with a number: 20 digits and a newline.
 const MAX_NUMBER_LINE: usize = 21;
@@ -190,7 +189,7 @@ fn serve_clients<L: Ledgers, T: Wait>(
     let progress = ProgressLine::new();
     let errors = StandardError::new(&rt, &progress);
     let path = server.path.as_str();
-    let mut access = Lease::new(threads, &server.store, share, front);
+    let mut access = SharedAccess::new(threads, &server.store, share, front);
     for _ in threads.forever() {
         let next = server.door.lock(threads).next_number();
         if !serve_next(errors, &mut access, server.at_end, path, next) {
@@ -268,7 +267,7 @@ fn serve_all<L: Ledgers + Send + Sync + 'static, T: Threads + Wait + Copy + Send
         return Err(Cause::OutOfMemory);
     };
     let front = server.store.lock(&threads).front();
-    let mut access = Lease::new(&threads, &server.store, own, front);
+    let mut access = SharedAccess::new(&threads, &server.store, own, front);
     let progress = ProgressLine::new();
     let errors = StandardError::new(&rt, &progress);
     if run_log(errors, &mut access, log)? == Verdict::Refused {

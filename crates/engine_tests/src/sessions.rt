@@ -1,4 +1,4 @@
-//! Sessions over one shared store, each with its own lease. Sessions at the same time are in tests/sessions.
+//! Sessions over one shared store, each with its own access. Sessions at the same time are in tests/sessions.
 
 ghost use Rattle.std.specs.Prelude.{◌≡◌, ◌^◌};
 ghost use Rattle.store_shared.specs.Made.{full_limits};
@@ -8,12 +8,10 @@ use b3_core::{Runtime, Work};
 use std::marker::Brand;
 use std::sync::Wait;
 use store_core::Limits;
-use store_engines::Verdict;
-use store_history::Front;
-use store_lease::Lease;
+use store_engines::{SharedAccess, Verdict};
 use store_ledger::{Accepted, Ledgers, Share};
 use store_lines::{Access, UploadsAtEnd, serve_over};
-use store_shared::{Locked, Shared, UnnamedLedgers};
+use store_shared::{Front, Locked, Shared, UnnamedLedgers};
 
 // Serves a session with these lines, and returns whether these are its answers.
 fn is_answered<A: Access, R: AllocGlobal + Runtime>(
@@ -73,23 +71,23 @@ const LEFT_ANSWERS: &[u8] =
 // A session's share, and what it has seen.
 type Client<L> = (Share<L>, Front<L>);
 
-// Sessions of two leases over one store, in turn. Returns both, and whether all answers are as they should be.
+// Sessions of two accesses to one store, in turn. Returns both, and whether all answers are as they should be.
 fn serve_in_turn<L: Ledgers, R: Wait + AllocGlobal + Runtime>(
     rt: &R,
     shared: &Shared<L>,
     client: Client<L>,
     other: Client<L>,
 ) -> (Client<L>, Client<L>, bool) {
-    let mut lease = Lease::new(rt, shared, client.0, client.1);
-    let mut other_lease = Lease::new(rt, shared, other.0, other.1);
+    let mut access = SharedAccess::new(rt, shared, client.0, client.1);
+    let mut other_access = SharedAccess::new(rt, shared, other.0, other.1);
     let (kept, aborted) = (UploadsAtEnd::Kept, UploadsAtEnd::Aborted);
-    let are_answered = is_answered(rt, &mut lease, kept, BEGUN, BEGUN_ANSWERS)
-        && is_answered(rt, &mut other_lease, kept, OTHER, OTHER_ANSWERS)
-        && is_answered(rt, &mut lease, kept, PAGES, PAGES_ANSWERS)
-        && is_answered(rt, &mut other_lease, kept, LASTING, b"upload 4\n")
-        && is_answered(rt, &mut lease, aborted, OWN, OWN_ANSWERS)
-        && is_answered(rt, &mut other_lease, kept, LEFT, LEFT_ANSWERS);
-    (lease.into_parts(), other_lease.into_parts(), are_answered)
+    let are_answered = is_answered(rt, &mut access, kept, BEGUN, BEGUN_ANSWERS)
+        && is_answered(rt, &mut other_access, kept, OTHER, OTHER_ANSWERS)
+        && is_answered(rt, &mut access, kept, PAGES, PAGES_ANSWERS)
+        && is_answered(rt, &mut other_access, kept, LASTING, b"upload 4\n")
+        && is_answered(rt, &mut access, aborted, OWN, OWN_ANSWERS)
+        && is_answered(rt, &mut other_access, kept, LEFT, LEFT_ANSWERS);
+    (access.into_parts(), other_access.into_parts(), are_answered)
 }
 
 // Whether the two shares together are everything that the store accepted.

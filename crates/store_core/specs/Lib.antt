@@ -4,7 +4,7 @@ pub mod Redone
 pub mod Commands
 pub mod Questions
 pub mod Carried
-pub mod Runs
 pub mod Seen
+pub mod Runs
 pub mod Following
 pub mod inner

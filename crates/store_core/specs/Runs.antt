@@ -4,13 +4,16 @@ use Rattle.b3_forest.specs.Parts.{ModelPrepared}
 use Rattle.store_books.specs.declared.refusal.Refusal.{Refusal}
 use Rattle.store_core.specs.declared.command.Command.{Command}
 use Rattle.store_core.specs.declared.command.Command.TheVariants as commands
+use Rattle.store_core.specs.declared.command.Outcome.{Outcome}
+use Rattle.store_core.specs.declared.command.Outcome.TheVariants as outcomes
 use Rattle.store_core.specs.declared.store.questions.Question.{Question}
 use Rattle.store_core.specs.declared.store.questions.Reply.{Reply}
 use Rattle.store_core.specs.declared.store.questions.Reply.TheVariants as replies
 use Rattle.store_core.specs.Carried.{HasTotals, IsCarried}
-use Rattle.store_core.specs.Commands.{Acceptance, StepsAs, abort_in, as_is, begin_in, begin_open_in, fix_in, forget_in, open_tenant_in, put_in, seal_as_in, seal_in, seal_work_in, set_limit_in}
+use Rattle.store_core.specs.Commands.{Acceptance, StepsAs, abort_in, as_is, begin_in, begin_open_in, fix_in, forget_in, open_tenant_in, opened, put_in, removed_in, seal_as_in, seal_in, seal_work_in, set_limit_in}
 use Rattle.store_core.specs.Questions.{Answers}
 use Rattle.store_core.specs.Model.{ModelStoreBooks, ModelStore}
+use Rattle.store_core.specs.Seen.{removed_bytes}
 use Rattle.store_upload.specs.Uploads.{Fits}
 
 -- a call of the store: a command, a part to put, or a question
@@ -46,6 +49,20 @@ abbrev pub Step : ModelStore → Call → Result Reply Refusal → ModelStore �
 Step old (change command) reply new = StepsAs as_is (answer_in old.state command) old reply new
 Step old (put upload part) reply new = FitsItsPlan part × StepsAs as_is (replied replies.Held (put_in old.state upload part)) old reply new
 Step old (ask question) reply new = Answers old question reply × (new ≡ old)
+
+-- the reply of an accepted command
+abbrev pub reply_of : Outcome → Reply
+reply_of (outcomes.Replied reply) = reply
+reply_of (outcomes.Aborted held) = replies.Done
+reply_of (outcomes.Forgot removed) = replies.Done
+
+-- what a command removed is returned: the parts of an upload that it aborted, and the object that no tenant holds any more
+abbrev pub Releases : ModelStoreBooks → Command → Outcome → Type 0
+Releases old (commands.Abort upload) (outcomes.Aborted held) = held ≡ opened old upload
+Releases old (commands.Abort upload) _ = ⊥
+Releases old (commands.Forget tenant address) (outcomes.Forgot removed) = removed_bytes removed ≡ removed_in old address
+Releases old (commands.Forget tenant address) _ = ⊥
+Releases old _ _ = Unit {0}
 
 -- the compressions of a command: those of a seal, otherwise none
 abbrev pub step_work : ModelStoreBooks → Command → ℕ

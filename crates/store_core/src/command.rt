@@ -1,14 +1,17 @@
 //! Commands as values, and executing them.
 
-ghost use Rattle.std.specs.Prelude.{◌≡◌};
+ghost use Rattle.std.specs.Prelude.{◌≡◌, IfOk};
 ghost use Rattle.b3_core.specs.Work.{counted};
-ghost use Rattle.store_core.specs.Commands.{seal_work_in};
-ghost use Rattle.store_core.specs.Runs.{Step, change, step_work};
+ghost use Rattle.store_core.specs.Commands.{reply_seen, seal_work_in};
+ghost use Rattle.store_core.specs.Runs.{Releases, Step, change, reply_of, step_work};
 ghost use Rattle.store_core.specs.Seen.{sealed_seen};
 
+use crate::object::Object;
 use crate::store::{Reply, Sealed, Store};
 use b3_core::Work;
+use b3_forest::Forest;
 use std::marker::Model;
+use std::sync::Arc;
 use store_books::{Address, Refusal, TenantId, UploadId};
 
 /// A command of the store, except a put. Lengths and limits are in bytes.
@@ -56,42 +59,65 @@ impl SealReply {
     }
 }
 
+/// The reply of an accepted command, and what the command removed from the store, so that the caller can free it later.
+#[derive(Drop)]
+pub enum Outcome {
+    Replied(Reply),
+    Aborted(Forest),
+    Forgot(Option<Arc<Object>>),
+}
+
+impl Outcome {
+    /// The reply.
+    pub fn reply(self) -> Reply
+        ensures { result ≡ reply_of self }
+    {
+        match self {
+            Outcome::Replied(reply) => reply,
+            Outcome::Aborted(_) | Outcome::Forgot(_) => Reply::Done,
+        }
+    }
+}
+
 impl Store {
-    /// Executes a command. A seal makes its compressions, any other command none.
-    pub fn step(&mut self, command: Command, work: &mut Work) -> Result<Reply, Refusal>
-        ensures step { Step self.old (change command) result self.new }
+    /// Executes a command, and returns what it removes. A seal makes its compressions, any other command none.
+    pub fn step(&mut self, command: Command, work: &mut Work) -> Result<Outcome, Refusal>
+        ensures step { Step self.old (change command) (reply_seen reply_of result) self.new }
+        ensures released { IfOk result (λ outcome. Releases self.old.state command outcome) }
         ensures count { work.new ≡ counted work.old (step_work self.old.state command) }
     {
         match command {
-            Command::OpenTenant { limit } => Ok(Reply::Tenant(self.open_tenant(limit)?)),
+            Command::OpenTenant { limit } => {
+                let tenant = self.open_tenant(limit)?;
+                Ok(Outcome::Replied(Reply::Tenant(tenant)))
+            }
             Command::SetLimit { tenant, limit } => {
                 self.set_limit(tenant, limit)?;
-                Ok(Reply::Done)
+                Ok(Outcome::Replied(Reply::Done))
             }
             Command::Begin { tenant, len } => {
                 let (upload, plan) = self.begin(tenant, len)?;
-                Ok(Reply::Upload(upload, plan))
+                Ok(Outcome::Replied(Reply::Upload(upload, plan)))
             }
             Command::BeginOpen { tenant, at_most } => {
                 let (upload, plan) = self.begin_open(tenant, at_most)?;
-                Ok(Reply::Upload(upload, plan))
+                Ok(Outcome::Replied(Reply::Upload(upload, plan)))
             }
             Command::Fix { upload, len } => {
                 self.fix(upload, len)?;
-                Ok(Reply::Done)
+                Ok(Outcome::Replied(Reply::Done))
             }
-            Command::Seal { upload } => Ok(Reply::Sealed(SealReply::new(self.seal(upload, work)?))),
+            Command::Seal { upload } => {
+                let sealed = self.seal(upload, work)?;
+                Ok(Outcome::Replied(Reply::Sealed(SealReply::new(sealed))))
+            }
             Command::SealAs { upload, address } => {
                 let sealed = self.seal_as(upload, address, work)?;
-                Ok(Reply::Sealed(SealReply::new(sealed)))
+                Ok(Outcome::Replied(Reply::Sealed(SealReply::new(sealed))))
             }
-            Command::Abort { upload } => {
-                let _held = self.abort(upload)?;
-                Ok(Reply::Done)
-            }
+            Command::Abort { upload } => Ok(Outcome::Aborted(self.abort(upload)?)),
             Command::Forget { tenant, address } => {
-                let _removed = self.forget(tenant, address)?;
-                Ok(Reply::Done)
+                Ok(Outcome::Forgot(self.forget(tenant, address)?))
             }
         }
     }

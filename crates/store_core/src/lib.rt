@@ -15,8 +15,9 @@
 //! - Commands are the methods of `Store` on `&mut self`, questions those on `&self`. A store is the books of `store_books` over parts and
 //!   objects with bytes, and a journal. Each command is refused with the books' first refusal, or changes the books as they define and adds
 //!   an entry (`specs/Commands.antt`). The facts about every store, whichever commands led to it, are in `specs/Carried.antt`.
-//! - `Command` and `Question` are these as values: `Store::step` executes a command, `Store::ask` answers a question, and both return a
-//!   `Reply`. What belongs to a question is in `src/store/questions.rt` and `specs/Questions.antt`.
+//! - `Command` and `Question` are these as values. `Store::step` executes a command; its `Outcome` has the `Reply`, and what the command
+//!   removed. `Store::ask` answers a question with a `Reply`. What belongs to a question is in `src/store/questions.rt` and
+//!   `specs/Questions.antt`.
 //! - `Object` is what a seal files: in contracts it is its bytes. It is stored under their hash.
 //! - `run_laws` states that this invariant holds along every list of commands and questions.
 //! - Names, limits and refusals come from `store_books`; the journal's entries, text and replay come from `store_journal`. All can be named
@@ -35,7 +36,7 @@ mod object;
 mod segments;
 mod store;
 
-pub use command::{Command, SealReply};
+pub use command::{Command, Outcome, SealReply};
 pub use laws::run_laws;
 pub use object::{Object, SharedObject};
 pub use store::{Counts, Held, Listing, Question, Redo, Redone, Reply, Sealed, Store};

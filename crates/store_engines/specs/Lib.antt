@@ -3,4 +3,7 @@ pub mod Journals
 pub mod Audits
 pub mod Migrations
 pub mod Uploads
+pub mod ClientSteps
+pub mod SharedSessions
+pub mod ClientLaws
 pub mod inner

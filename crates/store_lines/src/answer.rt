@@ -9,7 +9,7 @@ ghost use Rattle.std.specs.Io.BufRead.{strip_last};
 
 use crate::bad_lines::BadLines;
 use crate::ending::Ending;
-use crate::own::chosen;
+use crate::own::{chosen, run_command};
 use crate::questions::write_answer;
 use crate::receiving::put_bytes;
 use crate::request::{EntryRange, Request};
@@ -137,7 +137,7 @@ fn answer_request(alloc: Global, store: &mut Store, request: Request, work: &mut
     ensures { AnswersRequest store.old store.new request (reported_text store.new.journal result) (reported_ending result) }
 {
     match request {
-        Request::Does(command) => Answer::Replied(store.step(command, work)),
+        Request::Does(command) => Answer::Replied(run_command(store, command, work)),
         Request::Asks(question) => Answer::Replied(store.ask(question)),
         Request::Entries(range) => Answer::Entries(range),
         Request::Put(part) => put_bytes(alloc, store, part, work),

@@ -3,9 +3,9 @@
 ghost use Rattle.std.specs.Prelude.{◌≡◌, IfOk};
 ghost use Rattle.store_ledger.specs.Shares.{all_parts};
 
+use crate::history::UnnamedHistory;
 use std::alloc::{AllocError, Global};
 use std::sync::ledger::Blank;
-use store_history::UnnamedHistory;
 use store_ledger::ALL_PARTS;
 
 /// The two ledgers of a book and the history of a new store, before a type parameter names them.

@@ -3,7 +3,7 @@ use Rattle.store_lines.proofs.LineOutcomes.{request_asked, request_done, request
 use Rattle.store_lines.proofs.answer.answer_request.Goals as goal
 
 pub returns-in-Does : goal.returns-in-Does
-returns-in-Does c = request_done c.args.store.now c.step.new.self c.args.request c.in-Does.command c.step.result _ _ (search rules) c.step.ensures.step (refl, refl)
+returns-in-Does c = request_done c.args.store.now c.run_command.new.store c.args.request c.in-Does.command c.run_command.result _ _ (search rules) c.run_command.ensures (refl, refl)
 
 pub returns-in-Asks : goal.returns-in-Asks
 returns-in-Asks c = request_asked c.args.store.now c.args.request c.in-Asks.question c.ask.result _ _ (search rules) c.ask.ensures (refl, refl)

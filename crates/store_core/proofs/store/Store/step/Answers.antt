@@ -8,5 +8,5 @@ returns-in_err-fix-in-Fix-clause-step c = rw c.in-Fix.is (search rules)
 pub returns-in_err-sealed-in-SealAs-clause-step : goal.returns-in_err-sealed-in-SealAs-clause-step
 returns-in_err-sealed-in-SealAs-clause-step c = rw c.in-SealAs.is (search rules)
 
-pub returns-in_err-_removed-in-Forget-clause-step : goal.returns-in_err-_removed-in-Forget-clause-step
-returns-in_err-_removed-in-Forget-clause-step c = rw c.in-Forget.is (search rules)
+pub returns-in_err-forget-in-Forget-clause-step : goal.returns-in_err-forget-in-Forget-clause-step
+returns-in_err-forget-in-Forget-clause-step c = rw c.in-Forget.is (search rules)
