@@ -4,7 +4,7 @@ ENTRY_BYTES = 256
 """The most that an entry of the journal may take, which grows by doubling."""
 
 
-def resident(pid, field="VmRSS"):
-    """How many bytes of a process are resident, or by the field VmHWM the most that were; 0 of a process that has ended."""
+def resident(pid):
+    """How many bytes of a process are resident; 0 of one that has ended."""
     with open(f"/proc/{pid}/status", encoding="ascii") as status:
-        return next((int(line.split()[1]) << 10 for line in status if line.startswith(f"{field}:")), 0)
+        return next((int(line.split()[1]) << 10 for line in status if line.startswith("VmRSS:")), 0)

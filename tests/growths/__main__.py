@@ -11,9 +11,10 @@ Then the same is done to each test in a module `growths` of the crates' sources,
 `rt ci` or `rt test` has built: each run must pass. `--crates` names another folder instead of `crates`, and `--program-alone` omits
 these tests. Each command and each test must have at least one growth that fails. The last line is `N passed, M failed`.
 
-A small preloaded library (refusing.c) makes the growths fail, so a C compiler, `cc`, is needed.
+A small preloaded library (tests/common/memory.c) makes the growths fail, so a C compiler, `cc`, is needed.
 """
 import argparse
+import functools
 import os
 import subprocess
 import sys
@@ -23,28 +24,14 @@ sys.dont_write_bytecode = True
 TESTS = os.path.dirname(os.path.dirname(os.path.abspath(__file__)))
 sys.path[1:1] = [os.path.join(TESTS, "common"), os.path.join(TESTS, "second_reading")]
 from commands import DOOR, FILES, cases
+from judging import judged
 from preloaded import CannotPreload, Preloaded
 from python_needed import end_where_older
-from test_programs import CRATES, NoTests, tests
+from test_programs import CRATES, tests
 
-REFUSING = os.path.join(TESTS, "growths", "refusing.c")
+REFUSING = os.path.join(TESTS, "common", "memory.c")
 MAX_GROWTHS = 5000
 TELLS = b"b3store: out of memory\n"
-
-
-class Tally:
-    """Counts what passed, and reports and counts what failed."""
-
-    def __init__(self):
-        self.passed = self.failed = 0
-
-    def fail(self, name, why):
-        self.failed += 1
-        print(f"FAILED {name}: {why}")
-
-    def end(self):
-        print(f"{self.passed} passed, {self.failed} failed")
-        return 1 if self.failed else 0
 
 
 def ending(run):
@@ -67,12 +54,12 @@ def may_end(run, whole, case):
 
 
 def growths_of(refusing, case):
-    """How many runs did as they must, how many of these ended when out of memory, and what the others did."""
+    """What is wrong with the runs of a case in which each growth is refused in turn."""
     undisturbed, _ = refusing.run(case.words, case.data)
     whole = ending(undisturbed)
     if not is_answer(undisturbed, case.answer):
-        return 0, 0, [f"where no growth is refused it ended {whole!r}, not {tuple(case.answer)!r}"]
-    passed, ended, failed, is_refused = 0, 0, [], not case.refusal
+        return [f"where no growth is refused it ended {whole!r}, not {tuple(case.answer)!r}"]
+    ended, failed, is_refused = 0, [], not case.refusal
     for growth in range(1, MAX_GROWTHS):
         try:
             run, met = refusing.run(case.words, case.data, GROWTH=str(growth))
@@ -80,55 +67,35 @@ def growths_of(refusing, case):
             failed.append(f"growth {growth}: it did not end")
             continue
         if growth == 1 and not met:
-            return 0, 0, ["no growth was refused, as of a program that is linked statically"]
-        is_refused = is_refused or case.refusal in run.stdout
-        if may_end(run, whole, case):
-            passed += 1
-            ended += run.returncode == 3
-        else:
-            failed.append(f"growth {growth}: ended {ending(run)!r}")
+            return ["no growth was refused, as of a program that is linked statically"]
+        is_refused, ended = is_refused or case.refusal in run.stdout, ended + (run.returncode == 3)
+        failed += [] if may_end(run, whole, case) else [f"growth {growth}: ended {ending(run)!r}"]
         if not met:
-            return passed, ended, failed if is_refused else [*failed, f"no run reports {case.refusal!r}"]
-    failed.append(f"it grows more than {MAX_GROWTHS} times")
-    return passed, ended, failed
+            print(f"{name_of(case)}: {growth} runs, of which {ended} ended when out of memory")
+            return failed if is_refused else [*failed, f"no run reports {case.refusal!r}"]
+    return [*failed, f"it grows more than {MAX_GROWTHS} times"]
 
 
-def try_case(refusing, case, tally):
-    name = " ".join([os.path.basename(case.words[0]), *case.words[1:]])
-    try:
-        passed, ended, failed = growths_of(refusing, case)
-    except (OSError, subprocess.TimeoutExpired) as fault:
-        passed, ended, failed = 0, 0, [str(fault)]
-    reported = f", of which {ended} ended when out of memory" if ended else ""
-    print(f"{name}: {passed + len(failed)} runs{reported}")
-    for found in failed:
-        tally.fail(name, found)
-    tally.passed += passed
+def name_of(case):
+    return " ".join([os.path.basename(case.words[0]), *case.words[1:]])
 
 
-def try_all(options, folder, tally):
+def trials(options, folder):
+    """Each command and each test, with what finds its faults."""
     try:
         refusing = Preloaded(folder, REFUSING)
+        found, faults = ([], []) if options.program_alone else tests(options.crates)
     except CannotPreload as fault:
-        tally.fail("all", fault)
+        yield "all", lambda why=str(fault): [why]
         return
     for name, content in FILES.items():
         with open(os.path.join(folder, name), "wb") as file:
             file.write(content)
     os.mkfifo(os.path.join(folder, DOOR))
-    for case in cases(os.path.abspath(options.program)):
-        try_case(refusing, case, tally)
-    if options.program_alone:
-        print("the tests in modules growths are skipped: --program-alone")
-        return
-    try:
-        found, faults = tests(options.crates)
-    except NoTests as fault:
-        found, faults = [], [("tests", fault)]
-    for case in found:
-        try_case(refusing, case, tally)
+    for case in [*cases(os.path.abspath(options.program)), *found]:
+        yield name_of(case), functools.partial(growths_of, refusing, case)
     for name, why in faults:
-        tally.fail(name, why)
+        yield name, lambda why=why: [why]
 
 
 def main():
@@ -138,10 +105,8 @@ def main():
     parser.add_argument("--program-alone", action="store_true", help="leave the tests in modules growths out")
     parser.add_argument("--crates", default=CRATES, metavar="FOLDER", help="use the test programs FOLDER/NAME/out/NAME_tests")
     options = parser.parse_args()
-    tally = Tally()
     with tempfile.TemporaryDirectory() as folder:
-        try_all(options, folder, tally)
-    return tally.end()
+        return judged(trials(options, folder))
 
 
 if __name__ == "__main__":

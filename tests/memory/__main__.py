@@ -6,19 +6,19 @@
 - A fetch of an object that is 64 times as long allocates no more memory, and of a line that is too long for a command no more bytes are kept
   than of the longest command.
 - `sum` and `check` of a long file use the buffers of as many threads as `--threads` says, and no more than docs/USE.md says.
-- What is forgotten is freed, and so are the parts of an upload that was aborted or sealed as known: thousands of rounds of each take no more
-  memory than hundreds, except for the entries of the journal.
+- What is forgotten is freed, and so are the parts of an upload that was aborted or sealed as known: a program that may take 64 MiB does
+  thousands of rounds of each, with 256 MiB in all.
 
-Each script's answers are compared too. So that it is the store's memory that is measured, the bytes that are allocated and the memory that is
-resident must be at least what is held. The last line is `N passed, M failed`. A C compiler, `cc`, is needed.
+Each script's answers are compared too. So that it is the store's memory that is measured, the bytes that are allocated must be at least what is held.
+The last line is `N passed, M failed`. A C compiler, `cc`, is needed.
 """
 import functools
 import os
 import re
+import resource
 import subprocess
 import sys
 import tempfile
-import time
 
 sys.dont_write_bytecode = True
 HERE = os.path.dirname(os.path.abspath(__file__))
@@ -27,28 +27,24 @@ from blake3 import address_of
 from digests import RANDOM, random_bytes
 from judging import judged
 from python_needed import end_where_older
-from resident import ENTRY_BYTES, resident
 from script import pattern
 
 SECONDS = 120
 PARTS = 16
-FEW_ROUNDS, MANY_ROUNDS = 200, 4000
 PART = 65536
+LITTLE_MEMORY, ROUNDS = 1 << 26, 4096
 MAX_LINE = 33554481
 """The most bytes of a command's line with its line feed."""
 MANY_THREADS = 16
 LEAST_BUFFER, MAX_BUFFERS = 1 << 18, 22 << 20
 """The least that each thread's buffer has, and the most that all have together."""
-HELD_PARTS = 256
-TOLERANCE = 1 << 20
-"""How much less than the bytes of many parts may be resident, as some memory is used again."""
 NOTHING_LEFT = "objects 0 bytes 0 uploads 0 held 0 parts 0"
 
 
 def counting(folder):
     """The library that counts."""
     library = os.path.join(folder, "counting.so")
-    subprocess.run(["cc", "-O2", "-shared", "-fPIC", "-o", library, os.path.join(HERE, "counting.c")], check=True)
+    subprocess.run(["cc", "-O2", "-shared", "-fPIC", "-o", library, os.path.join(os.path.dirname(HERE), "common", "memory.c")], check=True)
     return library
 
 
@@ -67,31 +63,6 @@ def counted(words, library, data=b""):
     if not re.fullmatch(rb"\d+\n", count):
         raise ValueError(f"it reported {count[:20]!r} for a count")
     return run.stdout.decode(errors="replace"), int(count)
-
-
-def answered(program, folder, lines):
-    """The answers to a script, a line for each of its lines, and the most memory that was resident until then, in bytes. The system is asked while the
-    program runs: what it reports of an ended process includes the memory of this one, from before the program was loaded."""
-    path = os.path.join(folder, "answers")
-    with open(path, "wb") as answers:
-        child = subprocess.Popen([program, "run"], stdin=subprocess.PIPE, stdout=answers)
-    with child.stdin as script:
-        script.write("".join(f"{line}\n" for line in lines).encode())
-        script.flush()
-        end = time.monotonic() + SECONDS
-        while lines_in(path) < len(lines) and child.poll() is None and time.monotonic() < end:
-            time.sleep(0.01)
-        most = resident(child.pid, "VmHWM")
-    child.wait(SECONDS)
-    if most == 0:
-        raise ValueError("it ended before its input")
-    with open(path, encoding="utf-8", errors="replace") as answers:
-        return answers.read().splitlines(), most
-
-
-def lines_in(path):
-    with open(path, "rb") as file:
-        return file.read().count(b"\n")
 
 
 @functools.lru_cache(maxsize=None)
@@ -192,19 +163,22 @@ def threads_are_as_many_as_asked_for(program, folder):
     return most, LEAST_BUFFER
 
 
-def growth_of_rounds(program, folder, last_lines, last_answers, left=NOTHING_LEFT):
-    """How much more memory many rounds take than few, and how much that may be."""
-    most = []
-    for rounds in (FEW_ROUNDS, MANY_ROUNDS):
-        lines, answers = [f"tenant {2 * PART}"], ["tenant 0"]
-        for upload in range(rounds):
-            lines += [f"begin 0 {PART}", f"put {upload} 0 p:{PART}", *last_lines(upload)]
-            answers += [f"upload {upload}", f"held {PART} all", *last_answers(upload)]
-        found, bytes_seen = answered(program, folder, lines + ["stat"])
-        if found != answers + [left]:
-            raise ValueError(f"it answered {found[-3:]!r}")
-        most.append(bytes_seen)
-    return most[1] - most[0], (MANY_ROUNDS - FEW_ROUNDS) * (2 + len(last_lines(0))) * ENTRY_BYTES
+def little_memory():
+    resource.setrlimit(resource.RLIMIT_AS, (LITTLE_MEMORY, LITTLE_MEMORY))
+
+
+def rounds_in_little_memory(program, _folder, last_lines, last_answers, left=NOTHING_LEFT):
+    """Rounds of an upload whose parts have four times as many bytes together as the program may take."""
+    lines, answers = [f"tenant {2 * PART}"], ["tenant 0"]
+    for upload in range(ROUNDS):
+        lines += [f"begin 0 {PART}", f"put {upload} 0 p:{PART}", *last_lines(upload)]
+        answers += [f"upload {upload}", f"held {PART} all", *last_answers(upload)]
+    text = "".join(f"{line}\n" for line in [*lines, "stat"])
+    run = subprocess.run([program, "run"], input=text.encode(), stdout=subprocess.PIPE, preexec_fn=little_memory, timeout=SECONDS)
+    found = run.stdout.decode(errors="replace").splitlines()
+    if found != [*answers, left]:
+        raise ValueError(f"it answered {found[-3:]!r}")
+    return 0, 0
 
 
 ADDRESS = address_of_pattern(PART)
@@ -212,19 +186,6 @@ FORGOTTEN = (lambda at: [f"seal {at}", f"forget 0 {ADDRESS}"], lambda at: [f"new
 KNOWN = (lambda at: [f"seal {at}"], lambda at: [f"{'known' if at else 'new'} {ADDRESS} {PART}"], f"objects 1 bytes {PART} uploads 0 held 0 parts 0")
 ABORTED = (lambda at: [f"abort {at}"], lambda at: ["ok"])
 """How the rounds of an upload end, and the answers to that."""
-
-
-def what_is_held_is_measured(program, folder):
-    """How much less memory many held parts take than they have bytes, and how much less that may be."""
-    most = []
-    for count in (1, HELD_PARTS):
-        length = count * PART
-        lines = [f"tenant {length}", f"begin 0 {length}"] + [f"put 0 {at * PART} p:{PART}" for at in range(count)]
-        found, bytes_seen = answered(program, folder, lines)
-        if found[-1:] != [f"held {length} all"]:
-            raise ValueError(f"it answered {found[-1:]!r}")
-        most.append(bytes_seen)
-    return (HELD_PARTS - 1) * PART - (most[1] - most[0]), TOLERANCE
 
 
 CASES = {
@@ -235,10 +196,9 @@ CASES = {
     "a line that is too long is not kept": a_line_that_is_too_long_is_not_kept,
     "an upload takes its input once": an_upload_takes_its_input_once,
     "threads are as many as asked for": threads_are_as_many_as_asked_for,
-    "what is held is measured": what_is_held_is_measured,
-    "what is forgotten is given back": lambda *words: growth_of_rounds(*words, *FORGOTTEN),
-    "what is known is given back": lambda *words: growth_of_rounds(*words, *KNOWN),
-    "what is aborted is given back": lambda *words: growth_of_rounds(*words, *ABORTED),
+    "what is forgotten is given back": lambda *words: rounds_in_little_memory(*words, *FORGOTTEN),
+    "what is known is given back": lambda *words: rounds_in_little_memory(*words, *KNOWN),
+    "what is aborted is given back": lambda *words: rounds_in_little_memory(*words, *ABORTED),
 }
 """Each gives how many bytes more something takes, and at most how many that may be."""
 

@@ -1,17 +1,15 @@
 """python3 tests/of_tests: tests that tests/growths, tests/failures, tests/random, tests/sessions, tests/memory, tests/logs, tests/parted, tests/program,
-tests/pages, tests/clients, tests/install, tests/b3sum, tests/c, tests/store_c and tests/soak fail when they must: with `true` or `cat` instead of the program, with
+tests/pages, tests/clients, tests/install, tests/b3sum, tests/c and tests/store_c fail when they must: with `true` or `cat` instead of the program, with
 libraries that do nothing, if no growth of memory can be made to fail, and without a C compiler or a test program. tests/program and tests/clients are tried
 with `cat` alone. Each must end with status 1 and a last line `N passed, M failed`, where M is not 0; and where each test asks something of the program, N
 must be 0.
 
 A stand-in program (stand_in.c) gives the answers that tests/growths expects, and its memory grows once. With it tests/growths passes, unless it
-is linked statically, so that this growth can't be made to fail. The part `server` of tests/soak passes with tests/sessions/plain_server.py, and
-fails with each mistake of it that is tried. The last line is `N passed, M failed`, which counts these trials. A C compiler,
+is linked statically, so that this growth can't be made to fail. The last line is `N passed, M failed`, which counts these trials. A C compiler,
 `cc`, is needed.
 """
 import os
 import re
-import shlex
 import shutil
 import subprocess
 import sys
@@ -26,17 +24,11 @@ from commands import Answer, cases
 from python_needed import end_where_older
 from session import answer_of, requests_of
 from store import Store
-from test_programs import PASSED, tests_in_sources
+from test_programs import PASSED, crates_with_growths
 
 SECONDS = 1200
 STAND_IN = os.path.join(TESTS, "of_tests", "stand_in.c")
-PLAIN_SERVER = os.path.join(TESTS, "sessions", "plain_server.py")
-WRONG_SERVERS = {
-    "drops": "is no client's", "alters": "whose hash is", "mixes": "whose hash is", "clears": "audit reports", "half": "is no client's",
-    "keeps": "bytes more are resident",
-}
-"""Mistakes of that server, and what tests/soak reports of each."""
-INSTALL, B3SUM = OF_BASH = tuple(os.path.join(TESTS, name) for name in ("install", "b3sum"))
+INSTALL, B3SUM = (os.path.join(TESTS, name) for name in ("install", "b3sum"))
 NOT_THE_STORE = ("true", "cat")
 ANSWERS = "cat"
 """The one of these over which tests/program and tests/clients are tried, as it also answers: over both these two would take half of the time of all trials."""
@@ -73,7 +65,7 @@ def build_stand_in(path, tests, *flags):
 
 def put_test_programs(folder, program):
     """Puts a program as each test program that tests/growths looks for, below a folder, and gives that."""
-    for crate, _ in tests_in_sources():
+    for crate in crates_with_growths():
         os.makedirs(os.path.join(folder, crate, "out"))
         shutil.copy(program, os.path.join(folder, crate, "out", f"{crate}_tests"))
     return folder
@@ -83,7 +75,7 @@ def run_tests(words, path):
     """The status of a program of tests, the two numbers of its last line, and all that it reported."""
     try:
         run = subprocess.run(
-            ["bash" if words[0] in OF_BASH else sys.executable, *words], stdin=subprocess.DEVNULL, stdout=subprocess.PIPE, stderr=subprocess.STDOUT, timeout=SECONDS,
+            ["bash" if words[0] == INSTALL else sys.executable, *words], stdin=subprocess.DEVNULL, stdout=subprocess.PIPE, stderr=subprocess.STDOUT, timeout=SECONDS,
             env={**os.environ, "PATH": path},
         )
     except subprocess.TimeoutExpired:
@@ -130,11 +122,11 @@ class Trials:
 
 def try_growths(trials, folder):
     growths = os.path.join(TESTS, "growths")
-    tests = [name for _, names in tests_in_sources() for name in names]
+    tests = ["growths::first", "growths::second"]
     right, unlisted, linked, ending = (os.path.join(folder, name) for name in ("right", "unlisted", "linked", "ending"))
     is_static = build_stand_in(linked, tests, "-static")
     is_built = is_static or build_stand_in(linked, tests, "-DGROW=alloca")
-    if not is_built or not build_stand_in(right, tests) or not build_stand_in(unlisted, tests[1:]) or not build_stand_in(ending, tests, "-DENDS=1"):
+    if not is_built or not build_stand_in(right, tests) or not build_stand_in(unlisted, []) or not build_stand_in(ending, tests, "-DENDS=1"):
         trials.note("growths", (1, 0, 1, ""), ["no C compiler builds the stand-in"])
         return
     crates = {path: put_test_programs(path + ".crates", path) for path in (right, unlisted, linked)}
@@ -143,9 +135,9 @@ def try_growths(trials, folder):
     trials.passes("growths over the stand-in", [growths, right, "--crates", crates[right]])
     trials.passes("growths over the stand-in alone", [growths, right, "--program-alone"])
     trials.fails("growths over a stand-in that refuses no command", [growths, ending, "--program-alone"], "no run reports", 5)
-    count = len(tests)
+    count = len(crates_with_growths())
     trials.fails("growths without test programs", [growths, right, "--crates", empty], "can't be run", count)
-    trials.fails("growths and a test that is not listed", [growths, right, "--crates", crates[unlisted]], "does not list it", 1)
+    trials.fails("growths and test programs that list none", [growths, right, "--crates", crates[unlisted]], "it lists no test", count)
     how = "linked statically" if is_static else "that never grows, since cc -static builds none"
     trials.fails(f"growths over a stand-in {how}", [growths, linked, "--crates", crates[linked]], "no growth was refused")
     trials.fails("growths without a compiler", [growths, right, "--crates", crates[right]], "there is no C compiler", path=empty)
@@ -169,17 +161,6 @@ def try_program(trials, name):
     trials.fails(f"install over {name}", [INSTALL, program], "the program answers", 1)
     if shutil.which("b3sum"):
         trials.fails(f"b3sum over {name}", [B3SUM, program], may_pass=True)
-    few = ["--cases", "8", "--commands", "400", "--uploads", "4", "--minutes", "0.01"]
-    trials.fails(f"soak over {name}", [os.path.join(TESTS, "soak"), program, *few], may_pass=True)
-
-
-def script(folder, name, *words):
-    """A program that is these words with its own after them."""
-    path = os.path.join(folder, name)
-    with open(path, "w", encoding="utf-8") as file:
-        file.write(f'#!/bin/sh\nexec {shlex.join(words)} "$@"\n')
-    os.chmod(path, 0o755)
-    return path
 
 
 def put_nothing(folder, name):
@@ -200,16 +181,6 @@ def try_libraries(trials, folder):
     trials.fails("store_c over a library that does nothing", [os.path.join(TESTS, "store_c", "run"), b3store, b3], may_pass=True)
 
 
-def try_soak(trials, folder, mistake=None):
-    words = [sys.executable, PLAIN_SERVER, *(["--wrong", mistake] if mistake else [])]
-    name = f"soak over the plain server, {mistake or 'which makes no mistake'}"
-    soak = [os.path.join(TESTS, "soak"), script(folder, f"server-{mistake}", *words), "server", "--minutes", "0.25"]
-    if mistake:
-        trials.fails(name, soak, WRONG_SERVERS[mistake])
-    else:
-        trials.passes(name, soak)
-
-
 def main():
     end_where_older()
     trials = Trials()
@@ -217,7 +188,6 @@ def main():
         try_growths(trials, folder)
         try_libraries(trials, folder)
         runs = [pool.submit(try_program, trials, name) for name in NOT_THE_STORE]
-        runs += [pool.submit(try_soak, trials, folder, mistake) for mistake in (None, *WRONG_SERVERS)]
         for run in runs:
             run.result()
     print(f"{trials.passed} passed, {trials.failed} failed")

@@ -6,6 +6,7 @@ A case that differs is printed after FAILED with its seed; `--cases 1 --seed S` 
 `N passed, M failed`.
 """
 import argparse
+import functools
 import os
 import random
 import subprocess
@@ -21,24 +22,22 @@ import scripts
 import sessions
 import sums
 import uploads
+from judging import judged
 from python_needed import end_where_older
 
 KINDS = (scripts, sessions, journals, checks, uploads, sums)
 SECONDS = 60
 
 
-def difference(program, folder, kind, case):
-    """What the program does otherwise, or None."""
-    words, data, wanted, status = case
-    try:
-        run = subprocess.run([program] + words, input=data, capture_output=True, cwd=folder, timeout=SECONDS)
-    except (OSError, subprocess.TimeoutExpired) as fault:
-        return f"input {data!r}\n{fault}"
+def differences(program, folder, kind, seed):
+    """What the program does otherwise in the case of a seed."""
+    words, data, wanted, status = kind.case(random.Random(seed))
+    run = subprocess.run([program] + words, input=data, capture_output=True, cwd=folder, timeout=SECONDS)
     differs = kind.differs(run.stdout, wanted, data) if kind is uploads else run.stdout != wanted
     errors = kind.errors(data, wanted) if hasattr(kind, "errors") else b""
     if not differs and run.returncode == status and run.stderr == errors:
-        return None
-    return f"input {data!r}\nwanted {status} {wanted!r}\nanswered {run.returncode} {run.stdout!r} {run.stderr!r}"
+        return []
+    return [f"input {data!r}\nwanted {status} {wanted!r}\nanswered {run.returncode} {run.stdout!r} {run.stderr!r}"]
 
 
 def count(text):
@@ -55,19 +54,13 @@ def main():
     parser.add_argument("--cases", type=count, default=500)
     parser.add_argument("--seed", type=int, default=1)
     options = parser.parse_args()
-    program, failed = os.path.abspath(options.program), 0
+    program = os.path.abspath(options.program)
     with tempfile.TemporaryDirectory() as folder:
         for name, content in checks.FILES.items():
             with open(os.path.join(os.fsencode(folder), name), "wb") as file:
                 file.write(content)
-        for seed in range(options.seed, options.seed + options.cases):
-            kind = KINDS[seed % len(KINDS)]
-            found = difference(program, folder, kind, kind.case(random.Random(seed)))
-            if found:
-                failed += 1
-                print(f"FAILED {kind.__name__}, seed {seed}: {found}")
-    print(f"{options.cases - failed} passed, {failed} failed")
-    return 1 if failed else 0
+        cases = [(seed, KINDS[seed % len(KINDS)]) for seed in range(options.seed, options.seed + options.cases)]
+        return judged((f"{kind.__name__}, seed {seed}", functools.partial(differences, program, folder, kind, seed)) for seed, kind in cases)
 
 
 if __name__ == "__main__":

@@ -25,14 +25,13 @@ from lone import LONE_CASES
 from memory import refused_growths
 from plain_server import WRONG
 from python_needed import end_where_older
-from same import answered_late
 
 PLAIN = os.path.join(TESTS, "sessions", "plain_server.py")
 SECONDS_PER_COMMAND = 0.02
 MAX_SHOWN = 3
 OF_LONE = {"half": "halves of commands", "lags": "answers before it waits", "waits": "a client that never reads", "trips": "bad lines at the door"}
 """The cases that find the mistakes that no history of clients shows."""
-COMMANDS_TO_FIND = 4000
+COMMANDS_TO_FIND, MINUTES_TO_FIND = 4000, 0.05
 TENANTS = 3
 FOLLOWER = 100
 """The number of a client that is none of those that work."""
@@ -74,7 +73,10 @@ def finds(mistake, seed):
     """Whether the checks find a mistake of the plain server."""
     program = [sys.executable, PLAIN, "--wrong", mistake]
     try:
-        found = LONE_CASES[OF_LONE[mistake]](program) if mistake in OF_LONE else storm(program, 4, COMMANDS_TO_FIND, seed)
+        if mistake == "keeps":
+            found = deaths(program, MINUTES_TO_FIND, seed)
+        else:
+            found = LONE_CASES[OF_LONE[mistake]](program) if mistake in OF_LONE else storm(program, 4, COMMANDS_TO_FIND, seed)
     except (NoAnswer, AssertionError) as fault:
         found = [str(fault)]
     print(f"{mistake}: {found[:1]}"[:300], flush=True)
@@ -84,7 +86,6 @@ def finds(mistake, seed):
 def cases(program, options):
     half = options.commands // 2
     if not options.program_alone:
-        yield "the same sent twice", answered_late
         yield "the plain server", lambda: storm([sys.executable, PLAIN], 4, COMMANDS_TO_FIND, options.seed)
         for mistake in WRONG:
             yield f"the mistake {mistake}", functools.partial(finds, mistake, options.seed)

@@ -10,6 +10,7 @@ from door import Server, Session
 from history import Op, faults_of
 from journal import audit_answer
 from judging import wait_until
+from resident import ENTRY_BYTES, resident
 
 SESSIONS, WORKERS, VICTIMS = 8, 3, 4
 PAUSE = 0.004
@@ -19,6 +20,8 @@ LIVES = (0, 0.15)
 TENANTS = 3
 MAX_SHOWN = 3
 ENDS = 15
+SLACK = 8 << 20
+"""How much of a server's memory may be for its threads, and what its allocator keeps."""
 
 
 def asked(server, line):
@@ -150,10 +153,17 @@ def audit_differs(program, journal, totals):
     return [] if reported == wanted and wanted.startswith(totals) else [f"audit reports {reported!r}, the second reading {wanted!r}, and stat {totals!r}"]
 
 
+def more_memory(server, before, entries, stat):
+    """What is wrong with how much more memory the server has than it had before."""
+    most = sum(int(number) for number in stat.split()[3:8:4]) + ENTRY_BYTES * entries + SLACK
+    more = resident(server.process.pid) - before
+    return [f"{more} bytes more are resident, of at most {most}"] if more > most else []
+
+
 def deaths(program, minutes, seed):
-    """What is wrong where clients are killed for some minutes while others work."""
+    """What is wrong where clients are killed for some minutes while others work: what the journal doesn't explain, or memory that is not freed."""
     with Server(program, SESSIONS) as server:
-        first = [asked(server, "tenant 30000") for _ in range(TENANTS)]
+        first, before = [asked(server, "tenant 30000") for _ in range(TENANTS)], resident(server.process.pid)
         end, workers = time.monotonic() + 60 * minutes, []
         for number in range(1, WORKERS + 1):
             path = os.path.join(server.folder, f"log.{number}")
@@ -170,7 +180,7 @@ def deaths(program, minutes, seed):
         histories[0] += [stat] + [asked(server, f"{word} {tenant}") for word in ("list", "uploads") for tenant in range(TENANTS)]
         journal = server.ask("journal").decode().splitlines()[1:]
         histories += [ends + untold(journal, histories)]
-        found = faults_of(journal, histories) + audit_differs(program, journal, stat.answer)
+        found = more_memory(server, before, len(journal), stat.answer) + faults_of(journal, histories) + audit_differs(program, journal, stat.answer)
         status = server.end()
     print(f"{victims.count} clients were killed beside {sum(map(len, histories[:4]))} commands; {len(journal)} entries", flush=True)
     return found[:MAX_SHOWN] + ([f"the server ended with {status}"] if status else [])

@@ -234,15 +234,6 @@ def the_end_of_standard_input(program):
             check((server.end(), status), (server.reported(), ""))
 
 
-def many_that_say_nothing(program):
-    """Clients that come and go without a line, or leave before they are served."""
-    with Server(program, 2) as server:
-        for _ in range(ROUNDS):
-            server.session().close()
-        with sessions_of(server, 2) as after:
-            check(*((session.ask("tenants"), b"tenants 0\n") for session in after), (server.end(), 0))
-
-
 LONE_CASES = {
     "a client that never reads": one_that_never_reads,
     "more clients than sessions": more_than_there_are_sessions,
@@ -255,5 +246,4 @@ LONE_CASES = {
     "own uploads that are kept": own_uploads_that_are_kept,
     "answers before it waits": answers_before_it_waits,
     "the end of standard input": the_end_of_standard_input,
-    "clients that say nothing": many_that_say_nothing,
 }

@@ -10,7 +10,7 @@ from preloaded import CannotPreload, Preloaded
 from session import answer_of
 from store import Store
 
-REFUSING = os.path.join(os.path.dirname(os.path.dirname(os.path.abspath(__file__))), "growths", "refusing.c")
+REFUSING = os.path.join(os.path.dirname(os.path.dirname(os.path.abspath(__file__))), "common", "memory.c")
 MAX_GROWTHS = 2000
 SECONDS = 20
 LOOKS = 0.05

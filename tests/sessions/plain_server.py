@@ -1,26 +1,21 @@
 #!/usr/bin/env python3
 """plain_server.py [--wrong KIND] serve [--at PATH --sessions N [--keep-uploads]]: a slow `b3store serve --at` by the second reading, for tests/sessions; `audit`, too.
 
-With --wrong it breaks a promise, once in a while, so that tests/sessions and tests/soak have something to find:
+With --wrong it breaks a promise, once in a while, so that tests/sessions has something to find:
 
   older       a question is answered from the state of some entries before
   loses       a command is accepted, and neither done nor in the journal
-  drops       an accepted command is done, and not in the journal
   doubles     an accepted command is twice in the journal
   alters      an object is answered with another last byte
-  mixes       the bytes of two objects are exchanged
-  swaps       a client's question is answered to another client
   shares      two clients that begin the same are both given one upload, by one entry
   reorders    an accepted command changes places with the entry before it
-  forgets     once the journal has 64 entries, taking the lock forgets an object
   half        a last line without a newline is taken as a command
   lags        answers are kept back until there are many
   waits       no client is answered while one doesn't read its answers
   trips       a bad line at the door ends the server
-  clears      the uploads that a client began are removed when its session ends, and not in the journal
   stays       the uploads that a client began stay open when its session ends
   strays      the end of a session aborts the upload that was begun last, whoever began it
-  keeps       memory is never freed, which tests/soak alone finds
+  keeps       memory is never freed
 """
 import contextlib
 import copy
@@ -37,7 +32,7 @@ from questions import QUESTIONS
 from session import OwnUploads, answer_of, bytes_after
 from store import Store
 
-WRONG = ("older", "loses", "drops", "doubles", "alters", "mixes", "swaps", "shares", "reorders", "forgets", "half", "lags", "waits", "trips", "clears", "stays", "strays")
+WRONG = ("older", "loses", "doubles", "alters", "shares", "reorders", "half", "lags", "waits", "trips", "stays", "strays", "keeps")
 ASKING = {"usage", "list", "stat", "fetch", "fetchb", *(line.split(" ")[0] for line in QUESTIONS)}
 """The words of the lines that change nothing."""
 AGE = 12
@@ -55,7 +50,7 @@ class Answers:
 
     def __init__(self, wrong, keeps):
         self.wrong, self.keeps, self.store, self.lock = wrong, keeps, Store(), threading.Lock()
-        self.count, self.older, self.begun, self.asked, self.kept, self.uploads = 0, [], {}, (None, b""), [], {}
+        self.count, self.older, self.begun, self.kept, self.uploads = 0, [], {}, [], {}
 
     def answer(self, session, line, taken):
         word = line.split(" ")[0]
@@ -72,8 +67,6 @@ class Answers:
         if self.wrong == "alters" and re.match(rb"bytes [1-9]", given) and self.is_due():
             given = given[:-1] + bytes([given[-1] ^ 1])
         self.uploads.setdefault(session, OwnUploads()).note(line, given)
-        if word in ASKING:
-            self.asked = (session, given)
         return given
 
     def is_due(self):
@@ -90,21 +83,6 @@ class Answers:
             return answer_of(copy.deepcopy(self.store), line, taken)
         return None
 
-    def swapped(self, session, word, *_):
-        if word in ASKING and self.asked[0] not in (None, session) and self.is_due():
-            return self.asked[1]
-        return None
-
-    def forgotten(self, *_):
-        held = [(min(holders), address) for address, (_, holders) in self.store.objects.items()]
-        if len(self.store.journal) >= 64 and held and self.is_due():
-            self.store.forget(*held[0])
-
-    def mixed(self, *_):
-        if len(self.store.objects) > 1 and self.is_due():
-            (one, (content, holders)), (other, (other_content, other_holders)) = list(self.store.objects.items())[-2:]
-            self.store.objects.update({one: (other_content, holders), other: (content, other_holders)})
-
     def kept_on(self, _session, _word, _line, taken):
         self.kept.append(KEPT * taken)
 
@@ -113,10 +91,7 @@ class Answers:
         own = self.uploads.pop(session, OwnUploads())
         if self.wrong == "strays" and self.store.uploads:
             self.store.abort(max(self.store.uploads))
-        if self.wrong == "clears":
-            for number in own.numbers:
-                self.store.uploads.pop(number, None)
-        elif not self.keeps and self.wrong != "stays":
+        if not self.keeps and self.wrong != "stays":
             own.abort(self.store)
 
     def shared(self, session, word, line, taken):
@@ -132,13 +107,11 @@ class Answers:
 
 
 MISTAKES = {
-    "older": Answers.from_older, "loses": Answers.lost, "swaps": Answers.swapped, "shares": Answers.shared, "forgets": Answers.forgotten,
-    "mixes": Answers.mixed, "keeps": Answers.kept_on,
+    "older": Answers.from_older, "loses": Answers.lost, "shares": Answers.shared, "keeps": Answers.kept_on,
 }
 OF_ENTRIES = {
     "doubles": lambda journal: journal.append(journal[-1]),
     "reorders": lambda journal: journal.append(journal.pop(-2)),
-    "drops": lambda journal: journal.pop(),
 }
 """What is done to a journal after an accepted command."""
 

@@ -6,6 +6,7 @@ b3store_lines; between them bytes are filed in one call, and parts are put that 
 after FAILED with its seed; `--cases 1 --seed S` runs it again. The last line is `N passed, M failed`.
 """
 import argparse
+import functools
 import os
 import random
 import sys
@@ -14,6 +15,7 @@ sys.dont_write_bytecode = True
 TESTS = os.path.dirname(os.path.dirname(os.path.abspath(__file__)))
 sys.path[1:1] = [os.path.join(TESTS, name) for name in ("common", "second_reading", "random")]
 from blake3 import address_of
+from judging import judged
 from library import Library, Wrong
 from python_needed import end_where_older
 from script import call_of, pattern
@@ -177,13 +179,14 @@ def difference(name, words, wanted, found):
     return None if found == wanted else f"{name} {words!r}\nwanted {wanted!r}\nanswered {found!r}"
 
 
-def difference_at(path, seed):
-    """What the library does otherwise in the case of a seed, or None."""
+def differences_at(path, seed):
+    """What the library does otherwise in the case of a seed."""
     chance = random.Random(seed)
     try:
-        return difference_of_lines(path, chance) if seed % 8 == 0 else Case(path, chance).difference()
+        found = difference_of_lines(path, chance) if seed % 8 == 0 else Case(path, chance).difference()
     except Wrong as wrong:
-        return str(wrong)
+        found = str(wrong)
+    return [f"{found:.{MAX_TEXT}}"] if found else []
 
 
 def main():
@@ -193,14 +196,8 @@ def main():
     parser.add_argument("--cases", type=int, default=500)
     parser.add_argument("--seed", type=int, default=1)
     options = parser.parse_args()
-    path, failed = os.path.abspath(options.library), 0
-    for seed in range(options.seed, options.seed + options.cases):
-        found = difference_at(path, seed)
-        if found:
-            failed += 1
-            print(f"FAILED random calls, seed {seed}: {found:.{MAX_TEXT}}")
-    print(f"{options.cases - failed} passed, {failed} failed")
-    return failed != 0
+    path, seeds = os.path.abspath(options.library), range(options.seed, options.seed + options.cases)
+    return judged((f"random calls, seed {seed}", functools.partial(differences_at, path, seed)) for seed in seeds)
 
 
 if __name__ == "__main__":
