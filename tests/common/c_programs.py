@@ -10,6 +10,7 @@ WARNINGS = ["-D_GNU_SOURCE", "-Wall", "-Wextra", "-Wpedantic", "-Werror", "-O2",
 C11 = ["cc", "-std=c11", *WARNINGS]
 SANITIZERS = ["-g", "-fsanitize=address,undefined", "-fno-sanitize-recover=all"]
 SECONDS = 300
+MAX_TEXT = 4000
 
 counts = {True: 0, False: 0}
 
@@ -48,6 +49,12 @@ def write(folder, name, data):
     with open(path, "wb") as file:
         file.write(data)
     return path
+
+
+def shows_output(name, ran, wanted):
+    """Whether a program succeeded, and wrote what is wanted."""
+    found = ran.stdout.decode(errors="replace")
+    shows(not ran.returncode and re.fullmatch(wanted, found), f"{name} ended with {ran.returncode}: {found[-MAX_TEXT:]}")
 
 
 def runs_twice(name, source, libraries, program, *words, **how):

@@ -81,8 +81,6 @@ static void handles_and_tenants(void) {
     WORKS(b3store_open_tenant(&store, 1, &tenant, &why));
     SHOWS(tenant == 1);
     WORKS(b3store_set_limit(&store, 1, LEN, &why));
-    SHOWS(b3store_set_limit(&store, 1, UINT64_MAX, &why) == B3STORE_LIMIT_TOO_LARGE);
-    SHOWS(b3store_usage(&store, 2, &usage, &why) == B3STORE_NO_TENANT);
     WORKS(b3store_usage(&store, 1, &usage, &why));
     SHOWS(usage.used == 0 && usage.reserved == 0 && usage.limit == LEN);
 }
@@ -92,13 +90,11 @@ static void uploads(uint64_t of, bool is_open) {
     b3store_part part = B3STORE_CLOSED;
     b3store_progress held = {1, 1, 1};
     b3store_bound plan;
-    SHOWS(b3store_begin(&store, 1, LEN + 1, &upload, &why) == B3STORE_OVER_QUOTA && why.number <= LEN);
     if (is_open) WORKS(b3store_begin_open(&store, of, LEN, &upload, &why));
     else WORKS(b3store_begin(&store, of, LEN, &upload, &why));
     WORKS(b3store_plan(&store, upload, &plan, &why));
     SHOWS(plan.bound == LEN && plan.is_open == is_open);
-    SHOWS(b3store_prepare(&part, LEN, is_open, 1, bytes, 10, &work) == B3STORE_OFF_ALIGN);
-    SHOWS(b3store_prepare(&part, UINT64_MAX, is_open, 0, bytes, 10, &work) == B3STORE_PLAN_TOO_LONG && part.at == NULL);
+    SHOWS(b3store_prepare(&part, LEN, is_open, 1, bytes, 10, &work) == B3STORE_OFF_ALIGN && part.at == NULL);
     WORKS(b3store_prepare(&part, LEN, is_open, FIRST, bytes + FIRST, LEN - FIRST, &work));
     SHOWS(b3store_put(&store, 77, &part, &held, &why, &work) == B3STORE_NO_UPLOAD && part.at != NULL);
     WORKS(b3store_put(&store, upload, &part, &held, &why, &work));
@@ -118,14 +114,12 @@ static void lists(void) {
     size_t copied = 9;
     WORKS(b3store_list(&store, 0, &list, &why));
     SHOWS(b3store_object_rows(&list, 0, objects, 3, &copied) == 0 && copied == 1 && objects[0].len == LEN);
-    SHOWS(memcmp(&objects[0].address, &sealed.address, 32) == 0 && b3store_object_rows(&list, 1, objects, 3, &copied) == 0 && copied == 0);
-    SHOWS(b3store_close(&list) == 0);
+    SHOWS(memcmp(&objects[0].address, &sealed.address, 32) == 0 && b3store_close(&list) == 0);
     WORKS(b3store_begin(&store, 0, 7, &upload, &why));
     WORKS(b3store_uploads(&store, 0, &list, &why));
     SHOWS(b3store_upload_rows(&list, 0, open, 3, &copied) == 0 && copied == 1 && open[0].upload == upload && open[0].bound == 7 && open[0].held == 0);
     SHOWS(open[0].is_fixed == 1 && open[0].end == 7 && b3store_close(&list) == 0);
     WORKS(b3store_abort(&store, upload, &why));
-    SHOWS(b3store_abort(&store, upload, &why) == B3STORE_NO_UPLOAD);
     WORKS(b3store_tenants(&store, &list, &why));
     SHOWS(b3store_tenant_rows(&list, 1, usages, 3, &copied) == 0 && copied == 1 && usages[0].used == LEN && usages[0].limit == LEN);
     SHOWS(b3store_tenant_rows(&list, UINT64_MAX, usages, 3, &copied) == 0 && copied == 0 && b3store_close(&list) == 0);
@@ -137,32 +131,25 @@ static void objects(b3store_object *object) {
     size_t before;
     other.bytes[0] ^= 1;
     WORKS(b3store_has(&store, 1, &sealed.address, &len, &why));
-    SHOWS(len == LEN && b3store_has(&store, 1, &other, &len, &why) == B3STORE_NOT_HELD);
+    SHOWS(len == LEN);
     SHOWS(b3store_fetch(&store, 1, &other, object, &why) == B3STORE_NOT_HELD && object->at == NULL);
     before = allocated;
     WORKS(b3store_fetch(&store, 1, &sealed.address, object, &why));
     SHOWS(allocated - before < LEN / 2);
     WORKS(b3store_forget(&store, 0, &sealed.address, &why));
-    SHOWS(b3store_forget(&store, 0, &sealed.address, &why) == B3STORE_NOT_HELD);
 }
 
 static void lines(void) {
-    static const char three[] = "usage 1\nnothing\nputb 5 0 3\nabc", cut[] = "usage 1\nputb 5 0 4\nabc";
+    static const char cut[] = "usage 1\nnothing\nputb 5 0 3\nabcputb 5 0 4\nabc";
     b3store_text text = B3STORE_CLOSED;
     uint64_t entries = 0;
     uint32_t answer;
-    do {
-        answer = b3store_lines(&store, (const uint8_t *)three, sizeof three - 1, &text, &work);
-        if (answer == B3STORE_ANSWER_LOST) refusals++, SHOWS(b3store_close(&text) == 0);
-    } while (lacked(answer) || answer == B3STORE_ANSWER_LOST);
-    SHOWS(answer == 0);
-    has_text(&text, "used 5000 reserved 0 limit 5000\nbad\nrefused S7\n");
     do {
         answer = b3store_lines(&store, (const uint8_t *)cut, sizeof cut - 1, &text, &work);
         if (answer == B3STORE_ANSWER_LOST) refusals++, SHOWS(b3store_close(&text) == 0);
     } while (lacked(answer) || answer == B3STORE_ANSWER_LOST);
     SHOWS(answer == B3STORE_TRUNCATED);
-    has_text(&text, "used 5000 reserved 0 limit 5000\n");
+    has_text(&text, "used 5000 reserved 0 limit 5000\nbad\nrefused S7\n");
     WORKS(b3store_entries(&store, &entries));
     SHOWS(entries > 3);
     WORKS(b3store_journal(&store, 1, 2, &text, &why));
@@ -216,55 +203,31 @@ static void run(long nth) {
     SHOWS(blocks == 0);
 }
 
-/* What a part adds to the compressions when it is prepared, and when it is put. */
-struct step {
-    uint64_t offset, len, prepared, put;
-};
-
-/* The compressions of an upload whose parts are put in this order, and of its seal. */
-static void compressions(uint64_t of, bool is_open, const struct step *steps, int count, uint64_t seal) {
-    static uint8_t none[1 << 24];
+/* An upload of two parts, the last one first, takes as many compressions as one hash of its 1025 bytes: 15 and 0 to prepare, 2 to put, 1 to seal. */
+static void compressions(bool is_open) {
     b3store_part part = B3STORE_CLOSED;
     b3store_progress held;
+    uint64_t bound = is_open ? 4096 : 1025;
     WORKS(b3store_open(&store, 1, 100, 1));
-    WORKS(b3store_open_tenant(&store, of, &tenant, &why));
-    if (is_open) WORKS(b3store_begin_open(&store, tenant, of, &upload, &why));
-    else WORKS(b3store_begin(&store, tenant, of, &upload, &why));
-    for (int i = 0; i < count; i++) {
-        work = 0;
-        WORKS(b3store_prepare(&part, of, is_open, steps[i].offset, none, steps[i].len, &work));
-        SHOWS(work == steps[i].prepared);
-        work = 0;
-        WORKS(b3store_put(&store, upload, &part, &held, &why, &work));
-        SHOWS(work == steps[i].put);
-    }
+    WORKS(b3store_open_tenant(&store, bound, &tenant, &why));
+    if (is_open) WORKS(b3store_begin_open(&store, tenant, bound, &upload, &why));
+    else WORKS(b3store_begin(&store, tenant, bound, &upload, &why));
     work = 0;
+    WORKS(b3store_prepare(&part, bound, is_open, 1024, bytes, 1, &work));
+    WORKS(b3store_put(&store, upload, &part, &held, &why, &work));
+    SHOWS(work == 0);
+    WORKS(b3store_prepare(&part, bound, is_open, 0, bytes, 1024, &work));
+    SHOWS(work == 15);
+    WORKS(b3store_put(&store, upload, &part, &held, &why, &work));
+    SHOWS(work == 17);
     WORKS(b3store_seal(&store, upload, &sealed, &why, &work));
-    SHOWS(work == seal && b3store_close(&store) == 0);
-}
-
-/* In total as many as one hash of the bytes: 18 for 1025, 35 for 2049, 271 for 16 chunks. */
-static void all_compressions(void) {
-    static const struct step two[] = {{1024, 1, 0, 0}, {0, 1024, 15, 2}}, three[] = {{2048, 1, 0, 0}, {0, 1024, 15, 0}, {1024, 1024, 15, 2}};
-    static const struct step whole[] = {{0, 1025, 17, 0}}, longest[] = {{0, 1 << 24, 278526, 0}}, open[] = {{0, 1024, 15, 0}, {1024, 1, 0, 2}};
-    static const uint64_t merged[] = {2, 4, 2, 6, 2, 4, 2, 8};
-    struct step sixteen[16];
-    for (uint64_t i = 0; i < 8; i++) {
-        sixteen[i] = (struct step){2048 * i, 1024, 15, 0};
-        sixteen[8 + i] = (struct step){1024 * (15 - 2 * i), 1024, 15, merged[i]};
-    }
-    compressions(1025, false, two, 2, 1);
-    compressions(2049, false, three, 3, 3);
-    compressions(1025, false, whole, 1, 1);
-    compressions(0, false, NULL, 0, 1);
-    compressions(16384, false, sixteen, 16, 1);
-    compressions(1 << 24, false, longest, 1, 1);
-    compressions(4096, true, open, 2, 1);
+    SHOWS(work == 18 && b3store_close(&store) == 0);
 }
 
 int main(void) {
     long all, nth;
-    all_compressions();
+    compressions(false);
+    compressions(true);
     for (int i = 0; i < LEN; i++) bytes[i] = (uint8_t)(i * 31 + i / 256);
     run(-1);
     all = allocations;
