@@ -1,31 +1,25 @@
-//! A reader and a writer that process one byte per call, fail at a call or are interrupted, a writer that allocates nothing, names without
-//! files, sources with one name, and sources that record the calls.
+//! A reader and a writer that process one byte per call and may be interrupted, names without files, and sources that record the calls.
 
 use b3_check::{Name, NameFault, Names};
-use b3_core::{Mode, Top, Work};
+use b3_core::Top;
 use hash_engines::{FileFault, Reason, Sources};
 use std::alloc::Global;
 use std::io;
 use std::io::{ErrorKind, Read, Write};
 use std::marker::Model;
 
-/// Returns one byte per call. The call with the number `fails_at`, from 0, and all later ones fail. With `is_interrupted` it returns
-/// `Interrupted` before each byte and before the end.
+/// Returns one byte per call. With `is_interrupted` it returns `Interrupted` before each byte and before the end.
 #[derive(Drop)]
 pub struct ByteReader<'a> {
     pub bytes: &'a [u8],
-    pub calls: u64,
-    pub fails_at: u64,
     pub is_interrupted: bool,
     pub gives_next: bool,
 }
 
 impl<'a> ByteReader<'a> {
-    pub fn new(bytes: &'a [u8], fails_at: u64, is_interrupted: bool) -> ByteReader<'a> {
+    pub fn new(bytes: &'a [u8], is_interrupted: bool) -> ByteReader<'a> {
         ByteReader {
             bytes,
-            calls: 0,
-            fails_at,
             is_interrupted,
             gives_next: false,
         }
@@ -34,10 +28,6 @@ impl<'a> ByteReader<'a> {
 
 impl Read for ByteReader<'_> {
     fn read(&mut self, buf: &mut [u8]) -> io::Result<usize> {
-        if self.calls >= self.fails_at {
-            return Err(io::Error::from(ErrorKind::Other));
-        }
-        self.calls += 1;
         self.gives_next = !self.gives_next;
         if self.is_interrupted && self.gives_next {
             return Err(io::Error::from(ErrorKind::Interrupted));
@@ -75,12 +65,6 @@ impl ByteWriter {
         }
     }
 
-    /// What was accepted.
-    pub fn into_taken(self) -> Vec<u8> {
-        let ByteWriter { taken, .. } = self;
-        taken
-    }
-
     /// Whether a call failed, no call came after it, and what was accepted is a prefix of a text.
     pub fn has_stopped_in(&self, text: &[u8]) -> bool {
         self.calls == self.fails_at && self.failed == 1 && text.starts_with(self.taken.as_slice())
@@ -116,47 +100,6 @@ impl Write for ByteWriter {
     }
 }
 
-/// Accepts at most 1024 bytes, one per call, and allocates nothing.
-#[derive(Drop)]
-pub struct FixedWriter {
-    pub taken: [u8; 1024],
-    pub len: usize,
-}
-
-impl FixedWriter {
-    /// The length of the common prefix with a text.
-    pub fn common(&self, text: &[u8]) -> usize {
-        let mut common = 0usize;
-        let mut is_common = true;
-        for (taken, byte) in self.taken.iter().zip(text) {
-            is_common = is_common && common < self.len && taken == byte;
-            common = common.saturating_add(if is_common { 1 } else { 0 });
-        }
-        common
-    }
-
-    /// Whether the bytes from `following` on are this text.
-    pub fn ends_with(&self, following: usize, text: &[u8]) -> bool {
-        let end = following.saturating_add(text.len());
-        self.len == end && self.taken.get(following..end) == Some(text)
-    }
-}
-
-impl Write for FixedWriter {
-    fn write(&mut self, buf: &[u8]) -> io::Result<usize> {
-        if self.len >= 1024 || buf.is_empty() {
-            return Ok(0);
-        }
-        self.taken[self.len] = buf[0];
-        self.len += 1;
-        Ok(1)
-    }
-
-    fn flush(&mut self) -> io::Result<()> {
-        Ok(())
-    }
-}
-
 /// Names without files, or without memory for a lookup.
 #[derive(Drop)]
 pub struct NoNames {
@@ -186,36 +129,11 @@ impl Names for NoNames {
     }
 }
 
-/// Sources with the bytes `abc` for each name. They count the calls.
-#[derive(Drop)]
-pub struct AbcSources {
-    pub calls: u64,
-    work: Work,
-}
-
-impl AbcSources {
-    pub fn new(work: Work) -> AbcSources {
-        AbcSources { calls: 0, work }
-    }
-}
-
-impl Sources for AbcSources {
-    ghost gives = { λ _ _ _ _. Unit {0} };
-
-    ghost reports = { λ _ _ _ _. Unit {0} };
-
-    fn root_of(&mut self, _name: &[u8]) -> Result<Top, FileFault> {
-        self.calls = self.calls.saturating_add(1);
-        Ok(Top::of_input(&Mode::hash(), b"abc", &mut self.work))
-    }
-
-    fn report(&mut self, _name: &[u8], _reason: Reason) {}
-}
-
-/// Sources without files. They record the calls: for each hint its names, each after a space, and a semicolon; for each lookup the name and
-/// a question mark. Contracts do not see the record.
+/// Sources that all have this root, or that are all missing. They record the calls: for each hint its names, each after a space, and a
+/// semicolon; for each lookup the name and a question mark. Contracts do not see the record.
 #[derive(Drop)]
 pub struct HintedSources {
+    root: Option<Top>,
     asked: Vec<u8>,
 }
 
@@ -228,8 +146,9 @@ impl Model for HintedSources {
 }
 
 impl HintedSources {
-    pub fn new(alloc: Global) -> HintedSources {
+    pub fn new(alloc: Global, root: Option<Top>) -> HintedSources {
         HintedSources {
+            root,
             asked: Vec::new(alloc),
         }
     }
@@ -256,7 +175,10 @@ impl Sources for HintedSources {
     fn root_of(&mut self, name: &[u8]) -> Result<Top, FileFault> {
         let _ = self.asked.extend_from_slice(name);
         let _ = self.asked.push(b'?');
-        Err(FileFault::Failed(Reason::Missing))
+        match self.root {
+            Some(root) => Ok(root),
+            None => Err(FileFault::Failed(Reason::Missing)),
+        }
     }
 
     fn report(&mut self, _name: &[u8], _reason: Reason) {}

@@ -10,22 +10,12 @@ mod command_lines;
 #[cfg(test)]
 mod fakes;
 #[cfg(test)]
-mod files;
-#[cfg(test)]
-mod growths;
-#[cfg(test)]
 mod journal;
 #[cfg(test)]
-mod journal_writers;
-#[cfg(test)]
 mod promises;
-#[cfg(test)]
-mod replay;
 #[cfg(test)]
 mod sessions;
 #[cfg(test)]
 mod streams;
 #[cfg(test)]
 mod sums;
-#[cfg(test)]
-mod uploads;

@@ -1,15 +1,16 @@
-//! All engines with a reader or a writer that fails at a call, and with those that process one byte per call.
+//! All engines with a writer that fails at a call, and with readers and writers that process one byte per call and are interrupted. Reads that
+//! fail are in tests/failures.
 
 use crate::fakes::{ByteReader, ByteWriter, NoNames};
-use crate::uploads::uploaded;
 use b3_check::{ReportOptions, Shown};
 use b3_core::{Runtime, Work};
 use b3_tests::pattern;
 use hash_engines::{Cause, HashThreads, SumLine, SumMode, SumRequest, Verdict, check, sum};
 use std::io::BufReader;
+use std::marker::Brand;
 use std::sync::Wait;
 use std::thread::Threads;
-use store_engines::{JournalFault, UploadOptions, audit, migrate};
+use store_engines::{JournalFault, UnnamedLedgers, UploadOptions, audit, migrate, upload};
 use store_lines::{Untold, run, serve};
 
 #[derive(Clone, Copy, PartialEq, Eq)]
@@ -70,21 +71,6 @@ fn writes(engine: Engine) -> u64 {
     flushes.saturating_add(output(engine).len() as u64)
 }
 
-// The output if the read with this number fails, with one byte per read. Lines are answered once they were read with the bytes after them:
-// in a script these have 9 and 10 bytes, in a session 9, 9, 14, 14 and 10.
-fn answered(engine: Engine, fails_at: u64) -> &'static [u8] {
-    match engine {
-        Engine::Run | Engine::Serve if fails_at < 9 => b"",
-        Engine::Run if fails_at < 19 => b"tenant 0\n",
-        Engine::Serve if fails_at < 18 => b"tenant 0\n",
-        Engine::Serve if fails_at < 32 => b"tenant 0\nupload 0\n",
-        Engine::Serve if fails_at < 46 => b"tenant 0\nupload 0\nrefused S7\n",
-        Engine::Serve if fails_at < 56 => b"tenant 0\nupload 0\nrefused S7\nheld 3 all\n",
-        Engine::Run | Engine::Serve => output(engine),
-        _ => b"",
-    }
-}
-
 const ALL: ReportOptions = ReportOptions {
     shown: Shown::All,
     ignores_missing: false,
@@ -139,6 +125,18 @@ fn summed<R: Threads + AllocGlobal + Runtime>(
     }
 }
 
+// The result of an upload by one worker.
+fn uploaded<R: Threads + Wait + Sync + AllocGlobal + Runtime>(
+    rt: &R,
+    reader: &mut ByteReader<'_>,
+    writer: &mut ByteWriter,
+) -> Result<Verdict, Cause> {
+    let Ok(ledgers) = UnnamedLedgers::new(rt.alloc()) else {
+        return Err(Cause::OutOfMemory);
+    };
+    upload::<Brand, _, _, _>(rt, rt.alloc(), ONE_WORKER, ledgers, reader, writer)
+}
+
 // The verdict on a journal.
 fn judged(found: Result<Option<JournalFault>, Cause>) -> Result<Verdict, Cause> {
     match found {
@@ -163,30 +161,7 @@ fn ended<R: Threads + Wait + Sync + AllocGlobal + Runtime>(
         Engine::Run => answers(rt, false, reader, writer),
         Engine::Serve => answers(rt, true, reader, writer),
         Engine::Sum => summed(rt, reader, writer),
-        Engine::Upload => uploaded(rt, ONE_WORKER, reader, writer),
-    }
-}
-
-// Whether a read that fails is reported, after the answers to what was read before.
-fn reports_read<R: Threads + Wait + Sync + AllocGlobal + Runtime>(
-    rt: &R,
-    engine: Engine,
-    fails_at: u64,
-) -> bool {
-    let mut names = NoNames::new(true);
-    let mut reader = ByteReader::new(input(engine), fails_at, false);
-    let mut writer = ByteWriter::new(rt.alloc(), u64::MAX);
-    let found = ended(rt, engine, &mut names, &mut reader, &mut writer);
-    let is_reported = found == Err(Cause::CannotRead) && names.calls == 0;
-    is_reported && writer.taken.as_slice() == answered(engine, fails_at)
-}
-
-#[test]
-fn each_read_that_fails_is_reported(rt: HostRuntime) {
-    for engine in ENGINES {
-        for fails_at in 0..=input(engine).len() as u64 {
-            assert!(rt; reports_read(&rt, engine, fails_at), "{fails_at}");
-        }
+        Engine::Upload => uploaded(rt, reader, writer),
     }
 }
 
@@ -197,7 +172,7 @@ fn reports_write<R: Threads + Wait + Sync + AllocGlobal + Runtime>(
     fails_at: u64,
 ) -> bool {
     let mut names = NoNames::new(true);
-    let mut reader = ByteReader::new(input(engine), u64::MAX, false);
+    let mut reader = ByteReader::new(input(engine), false);
     let mut writer = ByteWriter::new(rt.alloc(), fails_at);
     let found = ended(rt, engine, &mut names, &mut reader, &mut writer);
     found == Err(Cause::CannotWrite) && writer.has_stopped_in(output(engine))
@@ -219,7 +194,7 @@ fn is_good<R: Threads + Wait + Sync + AllocGlobal + Runtime>(
     is_interrupted: bool,
 ) -> bool {
     let mut names = NoNames::new(true);
-    let mut reader = ByteReader::new(input(engine), u64::MAX, is_interrupted);
+    let mut reader = ByteReader::new(input(engine), is_interrupted);
     let mut writer = ByteWriter::new(rt.alloc(), u64::MAX);
     writer.is_interrupted = is_interrupted;
     let found = ended(rt, engine, &mut names, &mut reader, &mut writer);
@@ -248,7 +223,7 @@ fn is_line<R: Threads + AllocGlobal + Runtime>(rt: &R, input: &[u8], line: &[u8]
         alloc: rt.alloc(),
         count: Some(2),
     };
-    let mut reader = ByteReader::new(input, u64::MAX, true);
+    let mut reader = ByteReader::new(input, true);
     let mut writer = ByteWriter::new(rt.alloc(), u64::MAX);
     let found = sum(
         &threads,

@@ -1,5 +1,5 @@
 use Rattle.store_shared.specs.Made.{full_limits}
-use Rattle.engine_tests.proofs.uploads.uploaded.Given as goal
+use Rattle.engine_tests.proofs.streams.uploaded.Given as goal
 
 abbrev pub ghosts-upload : goal.ghosts-upload
 ghosts-upload g a = record {
