@@ -2,7 +2,7 @@
 //! reports are in tests/cases/check-*.table.
 
 use crate::fakes::FailingWriter;
-use crate::helpers::{ABC, THREE_LINES, digest};
+use crate::helpers::{ABC, digest};
 use b3_check::{
     CheckFile, Fault, Line, NameFault, Names, NumberedLine, ReadError, ReportOptions, Shown,
     verify, write,
@@ -11,6 +11,11 @@ use std::alloc::Global;
 use std::io::ErrorKind;
 use std::marker::Model;
 use std::slice;
+
+// A check file of two lines and a bad one between them. They start at the bytes 0, 68 and 74, and the first byte of a name comes 66 bytes
+// later.
+const THREE_LINES: &[u8] =
+    b"6437b3ac38465133ffb63b75273a8db548c558465d79db03fd359c6cd5bd9d85  f\nshort\naf1349b9f5f9a1a6a0404dea36dcc9499bcb25c9adc112b7cc9a93cae41f3262  g";
 
 // Names without files, which record the calls: for each hint the numbers of its lines, each after a space, and a semicolon; for each lookup
 // the name and a question mark. Contracts do not see the record.
@@ -91,38 +96,21 @@ fn is_reported_until(alloc: Global, file: &CheckFile, fails: u64, calls: &[u8]) 
     has_failed == (fails < 77) && writer.calls == fails.min(76) && names.was_asked(calls)
 }
 
-// Whether a line has the name and returns it.
-fn is_kept(alloc: Global, name: &[u8]) -> bool {
+// Whether a line keeps a name without a zero byte, and returns the bytes of any other by C7.
+fn is_kept_or_back(alloc: Global, name: &[u8], is_kept: bool) -> bool {
     let Ok(bytes) = Vec::from_slice(alloc, name) else {
         return false;
     };
     match Line::new([0; 32], bytes) {
-        Ok(line) => line.name.into_bytes().as_slice() == name,
-        Err(_) => false,
-    }
-}
-
-// The code of the fault with which the bytes of a name are returned.
-fn code_of(alloc: Global, name: &[u8]) -> &'static str {
-    let Ok(bytes) = Vec::from_slice(alloc, name) else {
-        return "";
-    };
-    match Line::new([0; 32], bytes) {
-        Ok(_line) => "",
-        Err(refused) => {
-            if refused.bytes.as_slice() == name {
-                refused.code()
-            } else {
-                ""
-            }
-        }
+        Ok(line) => is_kept && line.name.into_bytes().as_slice() == name,
+        Err(refused) => !is_kept && refused.bytes.as_slice() == name && refused.code() == "C7",
     }
 }
 
 #[test]
 fn names_are_kept_or_come_back(rt: HostRuntime) {
-    let alloc = rt.alloc();
-    assert!(rt; is_kept(alloc, b"a\\b") && code_of(alloc, b"a\0") == "C7");
+    let is_kept = is_kept_or_back(rt.alloc(), b"a\\b", true);
+    assert!(rt; is_kept && is_kept_or_back(rt.alloc(), b"a\0", false));
 }
 
 #[test]

@@ -1,13 +1,16 @@
 //! Hashes in three modes, at once and in pieces, and eight chunks at a time.
 
 use crate::fakes::pattern;
-use crate::helpers::{CONTEXT, KEY, digest};
-use crate::scripts::{cut, number};
+use crate::helpers::{ABC, digest};
 use b3_core::{Hasher, Mode, OutputReader, Runtime, Top, Work, compress, hash, hash_wide};
 use std::alloc::{AllocError, Global};
 
-// For lengths of the pattern: the compressions of its hash, and the hash in the three modes, from the reference implementation's command,
-// with the key and the context of the official test vectors.
+// The key and the context of the official test vectors.
+const KEY: &[u8; 32] = b"whats the Elvish word for friend";
+
+const CONTEXT: &[u8] = b"BLAKE3 2019-12-27 16:29:52 test vectors context";
+
+// For lengths of the pattern: the compressions of its hash, and the hash in the three modes, from the reference implementation's command.
 const HASHES: &str =
     "0 1 af1349b9f5f9a1a6a0404dea36dcc9499bcb25c9adc112b7cc9a93cae41f3262 92b2b75604ed3c761f9d6f62392c8a9227ad0ea3f09573e783f1498a4ed60d26 2cc39783c223154fea8dfb7c1b1660f2ac2dcbd1c1de8277b0b0dd39b7e50d7d
 1 1 2d3adedff11b61f14c886e35afa036736dcd87a74d27b5c1510225d0f592e213 6d7878dfff2f485635d39013278ae14f1454b8c0a3a2d34bc1ab38228a80c95b b3e2e340a117a499c6cf2398a19ee0d29cca2bb7404c73063382693bf66cb06c
@@ -22,6 +25,16 @@ const HASHES: &str =
 16384 271 f875d6646de28985646f34ee13be9a576fd515f76b5b0a26bb324735041ddde4 9e9fc4eb7cf081ea7c47d1807790ed211bfec56aa25bb7037784c13c4b707b0d 160e18b5878cd0df1c3af85eb25a0db5344d43a6fbd7a8ef4ed98d0714c3f7e1
 102400 1699 bc3e3d41a1146b069abffad3c0d44860cf664390afce4d9661f7902e7943e085 1c35d1a5811083fd7119f5d5d1ba027b4d01c0c6c49fb6ff2cf75393ea5db4a7 4652cff7a3f385a6103b5c260fc1593e13c778dbe608efb092fe7ee69df6e9c6
 ";
+
+// A text up to its first space, and the text after that.
+fn cut(text: &str) -> (&str, &str) {
+    text.split_once(' ').unwrap_or((text, ""))
+}
+
+// A number; for anything else, the largest one.
+fn number(text: &str) -> u64 {
+    text.parse::<u64>().unwrap_or(u64::MAX)
+}
 
 // The first 32 bytes of the extended output.
 fn first_output(mode: &Mode, bytes: &[u8], work: &mut Work) -> [u8; 32] {
@@ -158,6 +171,18 @@ fn a_chunk_number_of_two_words(rt: HostRuntime) {
     let mut work = Work::new(&rt);
     let node = Top::of_chunk(&Mode::keyed(KEY), b"abc", 1 << 32, &mut work);
     assert!(rt; node.cv(&mut work) == HIGH_CHUNK && work.count() == 1);
+}
+
+// What a copy is given does not affect the hasher.
+#[test]
+fn a_copy_of_a_hasher_goes_on_alone(rt: HostRuntime) {
+    let mut work = Work::new(&rt);
+    let mut hasher = Hasher::new(&Mode::hash());
+    hasher.update(b"ab", &mut work);
+    let mut copy = hasher.clone().expect(&rt, "a copy");
+    copy.update(b"c", &mut work);
+    let is_alone = hasher.count() == 2 && copy.count() == 3;
+    assert!(rt; is_alone && copy.digest(&mut work) == digest(ABC));
 }
 
 // The chaining value of a keyed parent is the key: no text shows it.

@@ -2,18 +2,14 @@
 #![tactic(auto)]
 
 #[cfg(test)]
+mod borrowed;
+#[cfg(test)]
 mod check_files;
 mod fakes;
-#[cfg(test)]
-mod follows;
-#[cfg(test)]
-mod forest_scripts;
 #[cfg(test)]
 mod forests;
 #[cfg(test)]
 mod growths;
-#[cfg(test)]
-mod hashers;
 #[cfg(test)]
 mod hashing;
 #[cfg(test)]
@@ -21,12 +17,6 @@ mod helpers;
 #[cfg(test)]
 mod outputs;
 #[cfg(test)]
-mod parallel;
-#[cfg(test)]
-mod places;
-mod scripts;
-#[cfg(test)]
-mod shared_parts;
+mod threads;
 
 pub use fakes::{FailingWriter, is_pattern, pattern};
-pub use scripts::{Answers, append, cut, number, reported, two_numbers};
