@@ -1,8 +1,7 @@
-"""Servers that lie, processes that inherit a store, closes that are interrupted, and odd numbers."""
+"""Servers that lie, processes that inherit a store, and closes beside other work."""
 import asyncio
 import gc
 import os
-import queue
 import signal
 import socket
 import subprocess
@@ -14,20 +13,10 @@ import warnings
 from pathlib import Path
 
 from served import server_of
-from running import Running, client_of_a_server, environment, listen_to_signals, over_both, run
+from running import Running, client_of_a_server, environment, listen_to_signals, run
 from shared import ABC, FOUR, SECONDS, check, ended, forked, raised, wait_until
 from b3store import AsyncStore, Client, Store
 from b3store.sessions import MAX_LINE_LEN, Session
-
-
-class Number:
-    """A number that is no int."""
-
-    def __init__(self, number):
-        self._number = number
-
-    def __index__(self):
-        return self._number
 
 
 WRONG_ANSWERS = (
@@ -175,36 +164,6 @@ def stores_that_are_dropped():
             gc.enable()
 
 
-class Interrupted:
-    """Free sessions, for which no one waits: an interrupt comes first."""
-
-    def __init__(self, free):
-        self._free, self.put = free, free.put
-
-    def get(self, timeout=None):
-        """A free session."""
-        del timeout
-        try:
-            return self._free.get_nowait()
-        except queue.Empty:
-            raise InterruptedError from None
-
-
-def closes_that_are_interrupted():
-    """A close that is interrupted while a session is in use loses none, so that the next one ends."""
-    with server_of(b"tenant 0\n") as path:
-        store = Client(path, sessions=3)
-        free, taken = store._free, store._free.get()
-        store._free = Interrupted(free)
-        check((raised(store.close), InterruptedError))
-        store._free = free
-        free.put(taken)
-        closing = threading.Thread(target=store.close, daemon=True)
-        closing.start()
-        closing.join(SECONDS / 2)
-        check((closing.is_alive(), False), (store.alive, False))
-
-
 async def _close_beside_a_pipe():
     """Closes a store while a thread of it reads a pipe, whose other end belongs to the same loop."""
     reading, writing = os.pipe()
@@ -226,20 +185,3 @@ async def _close_beside_a_pipe():
 
 def stores_for_asyncio_that_are_closed():
     asyncio.run(_close_beside_a_pipe())
-
-
-@over_both
-def odd_numbers(store):
-    """Numbers that are no int are used as they are."""
-    content = os.urandom(5000)
-    with tempfile.TemporaryFile() as file:
-        tenant = store.tenant()
-        file.write(content)
-        file.seek(0)
-        address = store.upload(file, Number(tenant), Number(5000)).address
-        check((b"".join(store.ranges(tenant, address, Number(2000))) == content, True))
-        with store.start_upload(tenant, Number(5000)) as upload:
-            store.put(upload.number, Number(0), content)
-        check((upload.filed.address, address))
-        with store.open(tenant, address, 0) as stored:
-            check((raised(stored.readinto, b"abc"), TypeError), (raised(stored.seek, 1.5), TypeError), (stored.seek(Number(7)), 7))

@@ -224,18 +224,6 @@ def ends_while_it_ends():
         check((run_text(text + "; sys.exit(console.finish(lambda: print('done') or 0))"), (-number, b"done\n", "")))
 
 
-def ends_at_signals_while_it_ends():
-    """No signal is a traceback that comes while a program reports an error, or while it ends at another signal."""
-    numbers = (signal.SIGTERM, signal.SIGHUP, signal.SIGINT)
-    start = "import os, sys; from b3store import console, programs; programs.end_at_once(); end = lambda number: os.kill(os.getpid(), number); "
-    for number in numbers:
-        text = f"{start}console.report = lambda _: end({int(number)}); sys.exit(console.finish(lambda: int('x')))"
-        check((run_text(text), (128 + number, b"", "")))
-        for second in numbers:
-            text = f"{start}drop = console.drop_output; console.drop_output = lambda: (end({int(second)}), drop()); sys.exit(console.finish(lambda: end({int(number)})))"
-            check((run_text(text), (128 + number, b"", "")))
-
-
 def run_text(text):
     """The status, standard output and standard error of a program of Python, which no signal finds ignored."""
     return run_python("-c", text, prepare=listen_to_signals)

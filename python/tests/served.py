@@ -2,6 +2,7 @@
 import array
 import contextlib
 import io
+import itertools
 import os
 import pathlib
 import re
@@ -14,7 +15,7 @@ import textwrap
 import threading
 
 from running import Running
-from shared import ABC, SECONDS, TOP, Interrupted, alarms, check, ended, in_threads, interrupted_calls, raised, refusal, wait_until
+from shared import ABC, SECONDS, TOP, Interrupted, alarms, check, ended, in_threads, interrupt, interrupted_calls, raised, refusal, wait_until
 from b3store import Client, Ended, Filed, Usage
 from b3store.client import PipeSession
 from b3store.sessions import Session
@@ -211,13 +212,6 @@ def clients_that_are_closed():
         check((results, [Ended]), (raised(store.stat), Ended))
 
 
-def commands_that_are_interrupted():
-    """If an exception interrupts a command, the client can't be used any more: an answer is unread."""
-    with alarms(), server_of(None) as path, Client(path) as store:
-        signal.setitimer(signal.ITIMER_REAL, 0.2)
-        check((raised(store.put, 0, 0, bytes(1 << 24)), Interrupted), (ended(store.stat), "a command was interrupted by Interrupted"), (store.alive, False))
-
-
 def interrupts_at_any_moment():
     """No interrupt of a command, or of `alive`, keeps a session. Older versions of Python look for signals before nearly each step, also of a finally: there it
     is only rarer."""
@@ -241,12 +235,13 @@ def give_up(*_):
 
 
 def commands_that_take_too_long():
-    """A handler may raise an OSError, as TimeoutError: it reaches the caller, and isn't taken for the end of the server."""
+    """If an exception interrupts a command, it reaches the caller, and the client can't be used any more: an answer is unread. An OSError that a handler
+    raises, as TimeoutError, isn't taken for the end of the server."""
     cases = (
         (None, lambda store: store.stat()), (b"bytes 5", lambda store: store.stat()), (None, lambda store: store.put(0, 0, bytes(1 << 24))),
         (b"bytes 5\nabc", lambda store: store.fetch(0, ABC)), (b"bytes 5\nabc", lambda store: store.fetch_into(0, ABC, bytearray(5))),
     )
-    for answer, call in cases:
-        with alarms(give_up), server_of(answer, None) as path, Client(path) as store:
+    for (answer, call), (handler, fault) in itertools.product(cases, ((give_up, TimeoutError), (interrupt, Interrupted))):
+        with alarms(handler), server_of(answer, None) as path, Client(path) as store:
             signal.setitimer(signal.ITIMER_REAL, 0.3)
-            check((raised(call, store), TimeoutError), (ended(store.stat), "a command was interrupted by TimeoutError"))
+            check((raised(call, store), fault), (ended(store.stat), f"a command was interrupted by {fault.__name__}"), (store.alive, False))

@@ -4,10 +4,10 @@ import contextlib
 import copy
 import gc
 import mmap
+import operator
 import os
 import pickle
 import resource
-import signal
 import sys
 import threading
 
@@ -67,11 +67,14 @@ class Text(str):
         return f"{ABC}\nforget 0 {ABC}"
 
 
-class NotEven:
-    """An integer that is none."""
+class Number:
+    """An integer that is no int, or none at all."""
+
+    def __init__(self, number=None):
+        self.number = number
 
     def __index__(self):
-        raise TypeError
+        return operator.index(self.number)
 
 
 @over_both
@@ -83,7 +86,7 @@ def wrong_arguments(store):
     ))
     check((store.put(upload, 0, array.array("I", [1, 2])), Held(8, None)), (store.seal(upload).length, 8))
     for call in store.usage, lambda number: store.file(number, b"abc"), lambda number: store.put(number, 0, b"abc"), lambda number: store.fetch(number, ABC):
-        check(*((raised(call, number), TypeError) for number in ("0", 0.0, None, b"0", [0], NotEven(), "0\nabort 0")))
+        check(*((raised(call, number), TypeError) for number in ("0", 0.0, None, b"0", [0], Number(), "0\nabort 0")))
         check(*((raised(call, number), ValueError) for number in (-1, 1 << 64, 10 ** 5000)))
     filed = store.file(tenant, b"abc")
     wrong = (filed.address + "\nforget 0 " + filed.address, "", ABC[:-1], ABC + "0", "g" * 64, ABC + "\n", "\u0660" * 64, " " + ABC[1:])
@@ -95,7 +98,7 @@ def wrong_arguments(store):
     check((store.has(tenant, Text(ABC)), 3), (store.file(tenant, array.array("I")).length, 0), (store.forget(tenant, EMPTY), None))
     check((raised(store.entries, 0, -1), ValueError), (raised(store.entries, 0, "1\nabort 0"), TypeError), (raised(Store, "b3store"), TypeError))
     check(
-        (store.has(tenant, ABC.upper()), 3), (store.stat(), Totals(2, 11, 0, 0, 0)), (store.usage(True - 1).used, 11),
+        (store.has(tenant, ABC.upper()), 3), (store.stat(), Totals(2, 11, 0, 0, 0)), (store.usage(Number(0)).used, 11), (store.fetch(Number(tenant), ABC, Number(1)), b"bc"),
         (store.fetch(tenant, list(store.list(tenant))[0]), array.array("I", [1, 2]).tobytes()), (len(store.entries()), 10),
     )
 

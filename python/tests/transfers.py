@@ -9,9 +9,9 @@ import tempfile
 import threading
 from pathlib import Path
 
-from running import client_of_a_server, over_both
+from running import over_both
 from shared import ABC, EMPTY, FOUR, SECONDS, Interrupted, check, interrupt, raised, refusal
-from b3store import MAX_LIMIT, MAX_UPLOAD_LEN, PART_LEN, AsyncStore, Ended, Filed, Held, Refused, Totals, Usage
+from b3store import MAX_LIMIT, MAX_UPLOAD_LEN, PART_LEN, AsyncStore, Ended, Filed, Held, Refused, Usage
 from b3store.values import half_of_memory
 
 LIMIT = 1 << 30
@@ -265,6 +265,7 @@ def objects_as_files(store):
     check((list(store.open(tenant, lines)), [b"first\n", b"second\n"]), (io.TextIOWrapper(store.open(tenant, lines)).read(), "first\nsecond\n"))
     check((store.open(tenant, lines, 0).size, 13), (refusal(store.open, tenant, FOUR), ("S12", None)), (raised(store.open, tenant, "4"), ValueError))
     with store.open(tenant, lines, 0) as file:
+        check((raised(file.seek, 1.5), TypeError), (raised(file.readinto, b"abc"), TypeError))
         store.forget(tenant, lines)
         check((refusal(file.read, 1), ("S12", None)))
 
@@ -322,12 +323,3 @@ def by_asyncio(given):
         check((raised(given.stat) in (ValueError, Ended), True), (raised(AsyncStore, "b3store"), TypeError))
 
     return asyncio.run(run())
-
-
-def scales():
-    """A thread's uploads do not wait for another thread's: with two sessions, one that is stuck does not stop the other."""
-    with client_of_a_server(sessions=2) as store:
-        tenant = store.tenant(LIMIT)
-        taken = store._free.get()
-        check((store.upload(b"abc", tenant).address, ABC), (store.stat(), Totals(1, 3, 0, 0, 0)), (store.usage(tenant), Usage(3, 0, LIMIT)))
-        store._free.put(taken)

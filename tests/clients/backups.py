@@ -9,7 +9,6 @@ import random
 import re
 import resource
 import shutil
-import signal
 import stat
 import struct
 import subprocess
@@ -515,33 +514,7 @@ def wrong_words():
         check((len(errors), 1), ("/none" in errors[0], True), (status, 1))
 
 
-def wait_for_library(process):
-    """Waits until a program has loaded the library, unless it ends before: the interpreter shows a traceback if it is interrupted while it starts."""
-    while process.poll() is None:
-        with open(f"/proc/{process.pid}/maps", encoding="utf-8") as maps:
-            if "libb3store" in maps.read():
-                return
-        time.sleep(0.01)
-
-
-def interrupts():
-    """Ctrl-C ends a run without a traceback, and leaves no file in part."""
-    with place_of() as (folder, repository, restored):
-        put(folder, "new", os.urandom(20000000))
-        for words in ["save", repository, folder], ["restore", repository, "latest", restored]:
-            for seconds in 0.1, 0.25:
-                with subprocess.Popen([*BACKUP, *words], stdout=subprocess.PIPE, stderr=subprocess.PIPE, preexec_fn=lambda: signal.signal(signal.SIGINT, signal.SIG_DFL)) as process:
-                    wait_for_library(process)
-                    time.sleep(seconds)
-                    process.send_signal(signal.SIGINT)
-                    errors = process.communicate(timeout=SECONDS)[1]
-                check((errors, b""), (process.returncode in (0, 130, -signal.SIGINT), True))
-            check((run(*words)[0], 0))
-        check((state_of(restored) == state_of(folder), True))
-        is_whole(repository, len(run("list", repository)[1]))
-
-
 CASES = (
     round_trip, snapshots_by_name, resumed_restores, killed_saves, damaged_objects, damaged_snapshots, hostile_repositories, planted_links,
-    replaced_while_it_runs, changing_files, attributes, owners_that_cannot_be_set, forgets, full_disks, deep_folders, locks, wrong_words, interrupts,
+    replaced_while_it_runs, changing_files, attributes, owners_that_cannot_be_set, forgets, full_disks, deep_folders, locks, wrong_words,
 )

@@ -4,7 +4,6 @@ import http.client
 import os
 import random
 import resource
-import shutil
 import signal
 import subprocess
 import sys
@@ -169,23 +168,17 @@ def damaged_logs():
         folder, offset = filled_folder(place)
         log = os.path.join(folder, "log")
         whole = contents(folder)["log"]
-        for damage, kept in ((offset + 7, b"x"), [b"a" * 5000, 404, b"c" * 5000]), ((len(whole) - 3, None), [b"a" * 5000, b"b" * 5000, 404]):
-            shutil.copytree(folder, folder + ".copy")
-            with open(os.path.join(folder + ".copy", "log"), "rb+") as file:
-                file.truncate(damage[0] if damage[1] is None else len(whole))
-                file.seek(damage[0])
-                file.write(damage[1] or b"")
-            with Cache(folder + ".copy") as cache:
+        for damaged, kept in (whole[: offset + 7] + b"x" + whole[offset + 8 :], [b"a" * 5000, 404, b"c" * 5000]), (whole[:-3], [b"a" * 5000, b"b" * 5000, 404]):
+            Path(log).write_bytes(damaged)
+            with Cache(folder) as cache:
                 check(([cache.get("/" + key) for key in "abc"], kept), (len(cache.reports()), 1))
                 check((cache.put("/new", b"new"), 201), (cache.stop()[0], 0))
-            with Cache(folder + ".copy") as cache:
-                check((cache.get("/new"), b"new"), ([cache.get("/" + key) for key in "abc"], kept))
-            shutil.rmtree(folder + ".copy")
-        for content in whole[:offset] + b"x" + whole[offset:], b"garbage\n" + whole, whole.replace(b"tenant ", b"tenant x", 1):
-            Path(log).write_bytes(content)
-            before = contents(folder)
-            status, out, lines = ended([folder])
-            check((status, 1), (out, b""), (1 <= len(lines) <= 2, True), ("/log: line" in lines[-1], True), (contents(folder) == before, True))
+            with Cache(folder) as cache:
+                check((cache.get("/new"), b"new"), ([cache.get("/" + key) for key in "abc"], kept), (cache.stop()[0], 0))
+        Path(log).write_bytes(whole.replace(b"tenant ", b"tenant x", 1))
+        before = contents(folder)
+        status, out, lines = ended([folder])
+        check((status, 1), (out, b""), (1 <= len(lines) <= 2, True), ("/log: line" in lines[-1], True), (contents(folder) == before, True))
 
 
 def other_folders():
@@ -203,12 +196,11 @@ def other_folders():
             store.file(store.tenant(1 << 20), b"abc")
             log.finish(store)
         log.close()
-        for words in [folder], [stored], [open_to_all], [os.path.join(folder, "file")], [""], [folder + "/file/x"]:
-            before = contents(words[0]) if os.path.isdir(words[0]) else None
-            status, out, lines = ended(words)
-            check(((words, status), (words, 1)), (out, b""), ((words, len(lines)), (words, 1)))
-            after = contents(words[0]) if os.path.isdir(words[0]) else None
-            check(((words, {**(after or {}), "clean": b""}), (words, {**(before or {}), "clean": b""})))
+        for path in folder, stored, open_to_all, os.path.join(folder, "file"), "", folder + "/file/x":
+            before = contents(path) if os.path.isdir(path) else {}
+            status, out, lines = ended([path])
+            check(((path, status, out, len(lines)), (path, 1, b"", 1)))
+            check(((path, {**(contents(path) if before else {}), "clean": b""}), (path, {**before, "clean": b""})))
         with Cache(os.path.join(place, "cache")) as cache:
             check((ended([cache.folder])[0], 1), (ended([cache.folder + "2", "--host", "no.such.host.invalid"])[0], 1))
             run = subprocess.run([sys.executable, SERVER, cache.folder + "3", "--port", str(cache.port)], stderr=subprocess.PIPE, timeout=SECONDS)

@@ -1,6 +1,5 @@
 """What goes through a connection, by its socket or by its session's pipes; and what is left of it when it ends."""
 import contextlib
-import hashlib
 import itertools
 import os
 import random
@@ -41,7 +40,7 @@ def a_session():
 
 
 def contents_of_all_lengths():
-    """Parts and contents go both ways as they are, also where they are read in pieces or sent ahead."""
+    """Contents go both ways as they are."""
     with Running() as server, server.client() as one, server.client() as two:
         chance = random.Random(1)
         one.ask("tenant 1000000000")
@@ -49,15 +48,6 @@ def contents_of_all_lengths():
             content = chance.getrandbits(8 * length).to_bytes(length, "little")
             address = one.file(content)
             check(*((client.ask(f"fetchb 0 {address}") == b"bytes %d\n" % length + content, True) for client in (one, two)))
-        pieces = b"".join(f"fetchb 0 {address} {start} 100000\nhas 0 {address}\n".encode() for start in range(0, 1 << 24, 100_000))
-        sender = threading.Thread(target=two.send, args=(pieces,))
-        sender.start()
-        digest = hashlib.sha256()
-        for _ in range(0, 1 << 24, 100_000):
-            digest.update(two.answer().partition(b"\n")[2])
-            check((two.answer(), b"has %d\n" % (1 << 24)))
-        sender.join()
-        check((digest.hexdigest(), hashlib.sha256(content).hexdigest()))
 
 
 def clients_that_leave():

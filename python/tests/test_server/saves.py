@@ -191,14 +191,6 @@ def stores_that_end():
         with Running("--save", folder) as server:
             os.kill(server.store(), signal.SIGKILL)
             check((server.status(), 3), ("is lost, except for what its log has\n" in server.reported(), True), (files_in(folder), files))
-        with Running("--save", folder, "--grace", "60") as server, server.client() as client:
-            client.ask("tenants")
-            server.signal()
-            os.kill(server.store(), signal.SIGSTOP)
-            client.close()
-            time.sleep(SHORTLY)
-            os.kill(server.store(), signal.SIGKILL)
-            check((server.status() in (3, 4), True), ("Traceback" in server.reported(), False), (files_in(folder), files))
         with Running("--save", folder, "--grace", "0") as server, server.client() as client:
             client.ask("begin 0 5")
             os.kill(server.store(), signal.SIGSTOP)
