@@ -1,14 +1,10 @@
-//! Boards, with numbers drawn by one thread and by several.
+//! Boards. Several threads draw numbers in uploads.
 
-ghost use Rattle.std.specs.Prelude.{◌≡◌, All, vec_len};
+ghost use Rattle.std.specs.Prelude.{◌≡◌};
 ghost use Rattle.store_board.specs.Seats.{IsSeatOf, seats_of};
 
-use crate::gates::zeros;
 use std::process::Abort;
-use std::sync::atomic::{AtomicU64, Ordering};
-use std::thread;
-use std::thread::Threads;
-use store_board::{Board, BoardRefusal, BoardSeat, Drawn};
+use store_board::{Board, BoardRefusal, BoardSeat};
 
 // The number that a seat draws.
 fn claimed(board: &Board, seat: &mut BoardSeat) -> Option<u64>
@@ -92,67 +88,4 @@ fn counts_are_limited(rt: HostRuntime) {
     assert!(rt; seats_of(&rt, 1, 16) == Ok(16));
     assert!(rt; seats_of(&rt, 1, 17) == Err(BoardRefusal::BadSeats));
     assert!(rt; seats_of(&rt, 1, 0) == Err(BoardRefusal::BadSeats));
-}
-
-// Draws until nothing is left, and counts each number that was drawn.
-fn draw_all(board: &Board, counts: &[AtomicU64], seat: &mut BoardSeat)
-    requires { IsSeatOf board.now seat.old }
-    ensures { IsSeatOf board.now seat.new }
-{
-    for _ in 0..u64::MAX {
-        let Some(number) = claimed(board, seat) else {
-            break;
-        };
-        if let Some(count) = counts.get(number as usize) {
-            count.fetch_add(1, Ordering::SeqCst);
-        }
-    }
-}
-
-fn draw_in_four_threads<R: Threads + Sync>(
-    rt: &R,
-    board: &Board,
-    counts: &[AtomicU64],
-    seats: &mut Vec<BoardSeat>,
-)
-    requires { All (λ s. IsSeatOf board.now s) seats.old.items }
-    ensures { All (λ s. IsSeatOf board.now s) seats.new.items × (vec_len seats.new ≡ vec_len seats.old) }
-{
-    thread::for_each_mut(
-        rt,
-        seats.as_mut_slice(),
-        4,
-        &|_, seat: &mut BoardSeat| { draw_all(board, counts, seat) },
-    );
-}
-
-// Draws all numbers in four threads, and counts how often each was drawn.
-fn drawn_by<R: Threads + Sync + AllocGlobal + Abort>(
-    rt: &R,
-    seats: u64,
-    counts: &[AtomicU64],
-) -> Drawn {
-    let board = Board::new(rt.alloc(), counts.len() as u64, seats);
-    let (board, mut seats) = board.expect(rt, "a board");
-    draw_in_four_threads(rt, &board, counts, &mut seats);
-    board.close(seats)
-}
-
-// Whether each number was drawn once.
-fn is_once_for_each(counts: &[AtomicU64]) -> bool {
-    counts.iter().all(|times| times.load(Ordering::SeqCst) == 1)
-}
-
-// Whether four threads draw each of 5000 numbers once, and leave none.
-fn are_drawn_once<R: Threads + Sync + AllocGlobal + Abort>(rt: &R, seats: u64) -> bool {
-    let counts = zeros(rt, 5000);
-    let drawn = drawn_by(rt, seats, counts.as_slice());
-    drawn.handed == 5000 && drawn.spent && is_once_for_each(counts.as_slice())
-}
-
-#[test]
-fn four_threads_draw_each_number_once(rt: HostRuntime) {
-    for seats in [1, 2, 16] {
-        assert!(rt; are_drawn_once(&rt, seats), "{seats} seats");
-    }
 }
