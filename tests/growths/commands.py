@@ -22,7 +22,7 @@ LOG = b"tenant 4096\nfileas 0 %s 2049\n%stenant 5\nfileas 0 %s 3\nabcforget 0 %s
 FILES = {"object": OBJECT, "abc": b"abc", "key": KEY, "log": LOG}
 FROB = b"error: unexpected argument '--frob' found\n"
 HELP = b"Hash and check files, and serve a store that keeps each content once, in memory, until its process ends\n\nUsage: "
-SIGNED = b"b3store: a number is decimal digits, without a sign; see b3store sum --help\n"
+SIGNED = b"b3store: --length takes a number from 1 to 65536, without a sign; see b3store sum --help\n"
 SCRIPT = f"""tenant 4096
 tenant 4096
 begin 0 2049

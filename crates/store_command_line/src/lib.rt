@@ -18,7 +18,7 @@
 //! within their ranges, and names can be in a check line. Arguments are accepted if and only if clap finds no fault in them and they result
 //! in such options, unless an allocation fails. No clause describes the text of a usage fault.
 //!
-//! Numbers are tested again after clap, whose contract states no ranges for the options of a subcommand, and which accepts a sign.
+//! Numbers are read and tested after clap, whose contract states no ranges for the options of a subcommand, and which accepts a sign.
 #![tactic(auto)]
 
 mod command;

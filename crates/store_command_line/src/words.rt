@@ -126,7 +126,16 @@ fn digits(text: &str) -> Option<u32>
     text.parse::<u32>().ok()
 }
 
-// A number from 1 to `most`. clap accepts a sign, and its contracts state no range within a subcommand.
+// The fault for a number that is not within the range of an option.
+fn number_usage(alloc: Global, subcommand: &str, id: &str, most: u32) -> Fault
+    ensures { IsNoVersion result }
+{
+    reported(format!(in alloc;
+        "b3store: --{id} takes a number from 1 to {most}, without a sign; see b3store {subcommand} --help\n"
+    ))
+}
+
+// A number from 1 to `most`.
 fn number_within(
     alloc: Global,
     found: &ArgMatches<'_>,
@@ -145,12 +154,7 @@ fn number_within(
     };
     match digits(text) {
         Some(n) if n >= 1 && n <= most => Ok(Some(n)),
-        Some(_) => Err(usage(alloc, subcommand, "a number is out of its range")),
-        None => Err(usage(
-            alloc,
-            subcommand,
-            "a number is decimal digits, without a sign",
-        )),
+        _ => Err(number_usage(alloc, subcommand, id, most)),
     }
 }
 
@@ -213,7 +217,6 @@ fn are_names(texts: &[&str]) -> bool
     texts.iter().all(|text| is_name(text))
 }
 
-// The input with this name.
 // The texts of the positional arguments.
 fn words_of<'a, 'b>(found: &'b ArgMatches<'a>, id: &str) -> Option<&'b [&'a str]>
     ensures { option_map (λ texts. map (λ text. text.now) texts.now) result ≡ all_of id.now (rows_of (found_of found.now)) }
