@@ -23,8 +23,8 @@ and sockets are reported and left out. A file isn't read again if its number, le
 run again. No link in FOLDER is followed. A new folder has the mode 1700 until it is complete.
 
 While a save or a forget uses a repository, no other command does. A save that is killed changes no snapshot. `check` gives each log to the
-program b3store, which needs as much memory: 64 MiB, or one object. Each command takes about 300 bytes of memory for each object, a save about
-500, and as much for each file of the last snapshot.
+program b3store, which needs as much memory: 64 MiB, or one object. Each command takes about 250 bytes of memory for each object, and a save
+about 1,000 more for each file of the last snapshot, and for each new object until its log is written.
 """
 import os
 import sys

@@ -1,5 +1,5 @@
-//! store LIMIT FILE..: keeps files in a store, for a tenant with LIMIT bytes, reads them back, and writes their addresses. Four threads prepare the parts of a
-//! file. It uses the proved library libb3store: rustc -O store.rs -C link-args="$(pkg-config --libs b3store)"
+//! store LIMIT FILE..: keeps files of less than 64 MiB in a store, for a tenant with LIMIT bytes, reads them back, and writes their addresses. Four threads
+//! prepare the parts of a file. It uses the proved library libb3store: rustc -O store.rs -C link-args="$(pkg-config --libs b3store)"
 
 mod bindings;
 

@@ -1,5 +1,5 @@
-// store LIMIT FILE..: keeps files in a store, for a tenant with LIMIT bytes, reads them back, and writes their addresses. Four goroutines prepare the parts
-// of a file. It uses the proved library libb3store by cgo: PKG_CONFIG_PATH=PREFIX/lib/pkgconfig go run store.go LIMIT FILE ..
+// store LIMIT FILE..: keeps files of less than 64 MiB in a store, for a tenant with LIMIT bytes, reads them back, and writes their addresses. Four goroutines
+// prepare the parts of a file. It uses the proved library libb3store by cgo: PKG_CONFIG_PATH=PREFIX/lib/pkgconfig go run store.go LIMIT FILE ..
 package main
 
 // #cgo pkg-config: b3store
