@@ -1,4 +1,4 @@
-/* A store of objects under their BLAKE3 hashes, in the memory of the program that calls it. An example in fifteen lines:
+/* A store of objects under their BLAKE3 hashes, in the memory of the program that calls it. An example:
  *
  *     #include <b3store.h>
  *     #include <stdio.h>
@@ -175,7 +175,7 @@ typedef struct b3store_sealed {
 
 /* Files up to 2^24 bytes for a tenant: begins an upload, puts the bytes, and seals it. If a step after the begin is refused, the upload is
  * aborted. Stores in `left` the number of the upload if its abort is refused too, otherwise B3STORE_NONE_LEFT. B3STORE_PART_TOO_LONG or
- * B3STORE_PLAN_TOO_LONG if there are more bytes, B3STORE_NO_PART_MEMORY, B3STORE_NO_VALUE: then nothing changes. Refusals: 1, 5, 6, 13, 14. */
+ * B3STORE_PLAN_TOO_LONG if there are more bytes, B3STORE_NO_PART_MEMORY, B3STORE_NO_VALUE: then only `work` may change. Refusals: 1, 5, 6, 13, 14. */
 uint32_t b3store_file(b3store *store, uint64_t tenant, const uint8_t *bytes, size_t len, b3store_sealed *sealed, uint64_t *left,
                       b3store_why *why, uint64_t *work);
 
