@@ -55,10 +55,13 @@ try:
 except ImportError as error:
     sys.exit(f"b3store: {error}")
 
-PART, MAX_LOG_LEN, MAX_LINE, MAX_DEPTH, NEW_FOLDER = 1 << 20, 1 << 26, 128, 400, 0o1700
+PART, MAX_LOG_LEN, MAX_LINE, MAX_DEPTH, MAX_TIME, NEW_FOLDER = 1 << 20, 1 << 26, 128, 400, 1 << 36, 0o1700
 LINE = re.compile(rb"(?:tenant [0-9]{1,20}|fileas 0 ([0-9a-f]{64}) ([0-9]{1,14}))\n")
-LOG, SNAPSHOTS, NEW, TENANT = re.compile("[0-9]{6}[.]log"), "snapshots", "new", 0
+FILED = re.compile(rb"(?:new|known) ([0-9a-f]{64}) [0-9]{1,14}\n")
+LOG, SNAPSHOTS, NEW, TENANT = re.compile("[0-9]{6,}[.]log"), "snapshots", "new", 0
 KINDS = {stat.S_IFREG: "file", stat.S_IFDIR: "folder", stat.S_IFLNK: "link"}
+FAULTS = OSError, StoreError, LookupError, ArithmeticError, TypeError, ValueError
+"""What a restore raises, also for values that no save has made."""
 CLOCK_STEP = 10**9
 """For so many nanoseconds after a change, another one may leave a file's time as it is."""
 
@@ -73,7 +76,7 @@ class Repository:
         """The length of each log; and the log, the offset and the length of each object."""
         self.store, self.new, self.kept = None, [], set()
         """The store of new objects that are in no log; the lengths of all new ones; and the addresses that need no comparison any more."""
-        for name in sorted(filter(LOG.fullmatch, os.listdir(self.folder))):
+        for name in sorted(filter(LOG.fullmatch, os.listdir(self.folder)), key=lambda name: int(name[:-4])):
             self.read_log(name)
         self.snapshots = []
         with contextlib.suppress(FileNotFoundError), opened(SNAPSHOTS, folder=self.folder) as file:
@@ -101,7 +104,7 @@ class Repository:
 
     def find(self, word):
         """The address of the snapshot that a word of the command line names."""
-        found = self.snapshots[-1:] if word == "latest" else sorted({address for address in self.snapshots if address.startswith(word)})
+        found = self.snapshots[-1:] if word == "latest" else sorted({address for address in self.snapshots if word and address.startswith(word)})
         if len(found) != 1:
             raise StoreError(f"{self.path} has {'several snapshots' if found else 'no snapshot'} {word}")
         return found[0]
@@ -128,7 +131,7 @@ class Repository:
 
     def snapshot(self, address):
         """The value of a snapshot: its time, the path of the folder, and the entry of the folder."""
-        return self.value(address, lambda value: type(value["time"]) is float and type(value["path"]) is str and is_entry(value["top"], "folder"))
+        return self.value(address, lambda value: abs(value["time"]) < MAX_TIME and os.fsencode(value["path"]) and is_entry(value["top"], "folder"))
 
     def entries(self, folder):
         """The entries of what is in a folder, which is given by its own entry."""
@@ -149,25 +152,31 @@ class Repository:
     def keep(self, content):
         """Keeps content unless it is there, and returns its address."""
         address = blake3(content).hexdigest()
-        if address in self.kept:
-            return address
-        self.kept.add(address)
+        if address not in self.kept:
+            try:
+                self.read(address)
+            except (OSError, StoreError):
+                self.add(content)
+            self.kept.add(address)
+        return address
+
+    def add(self, content):
+        """Adds content to the store of new objects. Raises StoreError if that can't be written: an OSError would be one of the file that is saved."""
+        if self.store is None:
+            self.store = Store()
+            self.store.tenant(MAX_LIMIT)
+        self.store.file(TENANT, content)
+        self.new.append(len(content))
         try:
-            self.read(address)
-        except StoreError:
-            if self.store is None:
-                self.store = Store()
-                self.store.tenant(MAX_LIMIT)
-            self.store.file(TENANT, content)
-            self.new.append(len(content))
             if self.store.stat().bytes >= MAX_LOG_LEN:
                 self.write_log()
-        return address
+        except OSError as error:
+            raise StoreError(f"cannot write to {self.path}: {error_text(error)}") from None
 
     def write_log(self):
         """Writes what redoes the store of new objects to a new log, which gets its name when it is complete."""
         if self.store is not None:
-            name, at = f"{int(max(self.logs, default='000000.log')[:-4]) + 1:06}.log", 0
+            name, at = f"{int(['0.log', *self.logs][-1][:-4]) + 1:06}.log", 0
             with self.replacing(name) as file:
                 while at < self.store.counts().entries:
                     at, lines = self.store.redo(at)
@@ -193,8 +202,8 @@ class Repository:
 
 def is_entry(entry, kind):
     """Whether a value is an entry of this kind, whose name leads nowhere else. May raise what a value of another type raises."""
-    name, parts = os.fsencode(entry["name"]), entry["parts"] if kind == "file" else []
-    is_right = entry["kind"] == kind and kind in KINDS.values() and type(parts) is list and {*map(type, parts)} <= {str}
+    name, parts = os.fsencode(entry["name"]), entry.get("parts", None if kind == "file" else [])
+    is_right = entry["kind"] == kind and kind in KINDS.values() and type(parts) is list and {*map(type, [*parts, entry.get("list", "")])} <= {str}
     return is_right and name not in (b"", b".", b"..") and not {*b"/\0"}.intersection(name)
 
 
@@ -244,7 +253,7 @@ class Backup(Repository):
     def save(self):
         place = os.path.abspath(self.options.folder)
         for address in reversed(self.snapshots):
-            with contextlib.suppress(StoreError, TypeError):
+            with contextlib.suppress(StoreError, LookupError, TypeError):
                 if not self.known and self.snapshot(address)["path"] == place and not self.options.all:
                     self.known.update((tuple(entry["state"]), entry["parts"]) for _, entry in self.paths(address) if "state" in entry)
         with inside(self.options.folder) as number:
@@ -322,20 +331,23 @@ class Backup(Repository):
         with contextlib.suppress(FileExistsError):
             os.mkdir(self.options.folder, NEW_FOLDER)
         with inside(self.options.folder) as self.top:
-            self.restore_list(self.top, top, "", [name for name in (self.options.path or "").split("/") if name])
+            try:
+                self.restore_list(self.top, top, "", [name for name in (self.options.path or "").split("/") if name])
+            except FAULTS as error:
+                self.report(f"not restored: {self.options.folder}: {error_text(error)}")
         if self.foreign:
             self.report(f"{count_text(self.foreign, 'owner')} couldn't be set; no setuid or setgid bits are set there")
 
     def restore_list(self, number, folder, path, wanted):
         """Restores what is in a folder, or what has the wanted names below it, into the current one, of which a descriptor is given."""
-        found = [entry for entry in self.entries(folder) if not wanted or entry["name"] == wanted[0]]
+        found = [entry for entry in self.entries(folder) if not wanted or entry["name"] == wanted[0] and (not wanted[1:] or entry["kind"] == "folder")]
         if wanted and not found:
             self.report(f"not in the snapshot: {os.path.join(path, *wanted)}")
         for entry in found:
             below = os.path.join(path, entry["name"])
             try:
                 self.restore_entry(entry, below, wanted[1:])
-            except (OSError, StoreError, LookupError, ArithmeticError, TypeError, ValueError) as error:
+            except FAULTS as error:
                 self.report(f"not restored: {below}: {error_text(error)}")
         status = os.fstat(number)
         # a folder that was there keeps its own mode, owner and time
@@ -425,7 +437,9 @@ class Backup(Repository):
         for name in self.logs:
             # the program compares the hash of each object with its address
             with opened(name, folder=self.folder) as log, subprocess.Popen([self.options.program, "serve"], stdin=log, stdout=subprocess.PIPE) as process:
-                hashed[name] = {line.split()[1].decode() for line in process.stdout if line.startswith((b"new ", b"known "))}
+                hashed[name] = {found[1].decode() for found in map(FILED.fullmatch, process.stdout) if found}
+            if process.returncode not in (0, 1):
+                raise StoreError(f"{self.options.program} ended with status {process.returncode} while it read {name}")
         for address, (name, _, _) in [*self.places.items()]:
             if address not in hashed[name]:
                 self.report(f"object {address} in {name} is damaged")

@@ -17,6 +17,7 @@ from typing import Any, BinaryIO, Callable, Iterator, List, Optional, Tuple
 from . import __version__
 from .client import Client
 from .console import check_line, error_text, finish, number, one_line, report, size
+from .transfers import parts_of
 from .values import MAX_NUMBER, MAX_UPLOAD_LEN, PART_LEN, Filed, Refused, check_address
 
 MISSING = 1
@@ -58,11 +59,11 @@ def put_file(store: Client, tenant: int, name: str, max_len: Optional[int]) -> F
         file: Any = ending.enter_context(open(0 if name == "-" else name, "rb", buffering=0, closefd=name != "-"))
         if max_len is not None or stat.S_ISREG(os.fstat(file.fileno()).st_mode):
             return store.upload(file, tenant, max_len=max_len)
-        import shutil
         import tempfile
 
         copy = ending.enter_context(tempfile.SpooledTemporaryFile(MAX_IN_MEMORY))
-        shutil.copyfileobj(file, copy, PART_LEN)
+        for part in parts_of(file):
+            copy.write(part)
         length = copy.tell()
         copy.seek(0)
         return store.upload(copy, tenant, length)
@@ -173,9 +174,8 @@ def named(values: Any) -> str:
 
 def tenant_of(store: Client, words: Any) -> int:
     """The requested tenant: by default the first one, which is opened if there is none."""
-    number = getattr(words, "tenant", None)
-    if number is not None:
-        return int(number)
+    if "tenant" in words:
+        return int(words.tenant)
     tenants = store.tenants()
     # another client may open one at the same time: both use the first
     return min(tenants) if tenants else min([store.tenant(), *store.tenants()])
@@ -269,9 +269,5 @@ def run(arguments: Optional[List[str]] = None) -> int:
             return miss(str(fault))
 
 
-def main() -> int:
-    return finish(run)
-
-
 if __name__ == "__main__":
-    sys.exit(main())
+    sys.exit(finish(run))

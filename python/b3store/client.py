@@ -102,12 +102,13 @@ class Client(Commands):
 
     def _open_session(self) -> Session:
         with contextlib.ExitStack() as failing:
-            connection = failing.enter_context(socket.socket(socket.AF_UNIX, socket.SOCK_STREAM))
             try:
+                connection = failing.enter_context(socket.socket(socket.AF_UNIX, socket.SOCK_STREAM))
                 connection.connect(self._path)
             except OSError as fault:
                 raise type(fault)(fault.errno, fault.strerror or str(fault), os.fsdecode(self._path)) from None
-            pipes = self._ask_for_pipes(connection) if self._passes_pipes else []
+            connection.settimeout(None)  # a session writes by the descriptor
+            pipes = self._ask_for_pipes(connection, failing) if self._passes_pipes else []
             if not pipes and self._passes_pipes:
                 self._passes_pipes = False
                 return self._open_session()
@@ -115,24 +116,22 @@ class Client(Commands):
             self._sockets.append(connection)
             return PipeSession(connection, pipes, self._end) if pipes else Session(connection, connection.makefile("rb", READ_LEN), self._end)
 
-    def _ask_for_pipes(self, connection: socket.socket) -> List[int]:
-        """The pipes of a connection's session. None if they are lost on the way to this process, or the server knows of none."""
+    def _ask_for_pipes(self, connection: socket.socket, failing: contextlib.ExitStack) -> List[int]:
+        """The pipes of a connection's session, which `failing` closes. None if they are lost on the way to this process, or the server knows of none."""
         answer, pipes, room = b"", array.array("i"), socket.CMSG_SPACE(2 * array.array("i").itemsize)
+        failing.callback(lambda: [os.close(end) for end in pipes])
         try:
             connection.sendall(ASK_FOR_PIPES)
             while not answer.endswith(b"\n"):
                 piece, others, _, _ = connection.recvmsg(len(ASK_FOR_PIPES), room, socket.MSG_CMSG_CLOEXEC)
+                pipes.frombytes(b"".join(data for _, _, data in others))
                 if not piece:
                     raise Ended(self._end)
                 answer += piece
-                for _, _, data in others:
-                    pipes.frombytes(data)
         except OSError as fault:
             raise fault if fault.errno is None else Ended(self._end) from None
-        if len(pipes) == 2 or not pipes and answer in (ASK_FOR_PIPES, b"bad\n"):
+        if (len(pipes), answer) == (2, ASK_FOR_PIPES) or not pipes and answer in (ASK_FOR_PIPES, b"bad\n"):
             return list(pipes)
-        for end in pipes:
-            os.close(end)
         raise Ended(BUSY if answer == b"busy\n" else f"the server answers {answer[:60]!r}")
 
     def _with_all(self, get: Callable[[], Session], work: Callable[[List[Session]], Value]) -> Value:

@@ -160,8 +160,7 @@ class Commands:
 
     def uploads(self, tenant: int) -> List[OpenUpload]:
         """Returns a tenant's open uploads, in the order of their numbers. Refusals: S1, S14."""
-        rows = self._rows("N N (?:N|-) N", "uploads N", f"uploads {check_number('tenant', tenant)}")
-        return [OpenUpload(*row) for row in rows]
+        return [OpenUpload(*row) for row in self._rows("N N (?:N|-) N", "uploads N", f"uploads {check_number('tenant', tenant)}")]
 
     def tenants(self) -> Dict[int, Usage]:
         """Returns how many bytes each tenant uses and reserves, and its limit, by number."""
@@ -223,12 +222,9 @@ class Commands:
         is its address. If anything is raised, the upload is aborted.
 
         Refusals: S1, S5, S6; F4 for a file that is longer than what is reserved; S11."""
-        if address is not None:
-            check_address(address)
-        if length is not None:
-            length = check_number("length", length, 0, MAX_UPLOAD_LEN)
-        if max_len is not None:
-            max_len = check_number("max_len", max_len)
+        address = None if address is None else check_address(address)
+        length = None if length is None else check_number("length", length, 0, MAX_UPLOAD_LEN)
+        max_len = None if max_len is None else check_number("max_len", max_len)
         if is_file(content):
             return self._upload_file(content, tenant, length, address, max_len)
         view = check_bytes(content)

@@ -12,7 +12,7 @@ import time
 
 from .client import Client
 from .console import count_text, fault_text, finish, report
-from .redo_log import RedoLog
+from .redo_log import RedoLog, counts_text
 from .values import MAX_REDONE, StoreError
 
 SECONDS_BETWEEN_LOOKS, SECONDS_BETWEEN_TRIES = 0.1, 1.0
@@ -61,8 +61,8 @@ def follow_to_server(source: Client, path: str, journal: Journal) -> None:
                 journal.note(source)
                 target.run_lines(lines)
             if following == at and not is_told:
-                counts, is_told = target.counts(), True
-                print(f"b3store.follow: {path} has {count_text(counts.objects, 'object')} and {count_text(counts.tenants, 'tenant')}", flush=True)
+                is_told = True
+                print(f"b3store.follow: {path} has {counts_text(target.counts())}", flush=True)
             if following == at:
                 time.sleep(SECONDS_BETWEEN_LOOKS)
             at = following

@@ -9,7 +9,7 @@ from typing import Any, List, Sequence, Tuple
 from .values import Refused, StoreError
 
 FILE = "libb3store.so.1"
-LAYOUTS = re.compile("(/.*)/(?:share/doc/b3store/python|lib/python3[^/]*/[^/]*-packages)/b3store")
+LAYOUTS = re.compile("(?s)(/.*)/(?:share/doc/b3store/python|lib/python3[^/]*/[^/]*-packages)/b3store")
 """Where `./install` and pip put the package, below a prefix."""
 LEVEL = "x86-64-v3"
 FLAGS_OF_LEVEL = {"abm", "avx", "avx2", "bmi1", "bmi2", "f16c", "fma", "movbe", "xsave"}
@@ -27,8 +27,7 @@ def has_level() -> bool:
 def paths() -> List[str]:
     """The paths at which the library is looked for, in this order: the one that is set; in the package; below the package's prefix, or in the clone that the
     package is in; where the loader finds it."""
-    given = os.environ.get("B3STORE_LIBRARY")
-    if given:
+    if given := os.environ.get("B3STORE_LIBRARY"):
         return [given]
     package = os.path.dirname(os.path.realpath(__file__))
     installed = LAYOUTS.fullmatch(package)
@@ -64,7 +63,8 @@ class PyBuffer(ctypes.Structure):
     _fields_ = [("at", ctypes.c_void_p), ("others", ctypes.c_void_p * 9)]
 
 
-get_buffer, release_buffer, new_bytes = ctypes.pythonapi.PyObject_GetBuffer, ctypes.pythonapi.PyBuffer_Release, ctypes.pythonapi.PyBytes_FromStringAndSize
+# not attributes of `pythonapi`: all modules of a process share those, and set the types of their arguments
+get_buffer, release_buffer, new_bytes = map(ctypes.pythonapi.__getitem__, ("PyObject_GetBuffer", "PyBuffer_Release", "PyBytes_FromStringAndSize"))
 get_buffer.argtypes = [ctypes.py_object, ctypes.POINTER(PyBuffer), ctypes.c_int]
 release_buffer.argtypes, release_buffer.restype = [ctypes.POINTER(PyBuffer)], None
 new_bytes.argtypes, new_bytes.restype = [ctypes.c_void_p, ctypes.c_ssize_t], ctypes.py_object

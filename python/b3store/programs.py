@@ -56,9 +56,10 @@ def signals_held() -> "Iterator[None]":
 
 def client() -> int:
     end_at_once()
-    from .__main__ import main
+    from .__main__ import run
+    from .console import finish
 
-    return main()
+    return finish(run)
 
 
 def server() -> int:

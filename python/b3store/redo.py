@@ -7,6 +7,7 @@ from typing import BinaryIO, Callable, Iterator, List, NamedTuple, Optional, Tup
 
 from . import TYPE_CHECKING
 from .sessions import PIECE_LEN
+from .transfers import is_file
 from .values import FILED, Buffer, ObjectRow, Refused, StoreError, check_bytes
 
 if TYPE_CHECKING:
@@ -92,7 +93,7 @@ def run_lines(
     store: "Commands", log: Union[Buffer, BinaryIO], tick: Tick = lambda: None, skip: Optional[Callable[[LogError], None]] = None
 ) -> int:
     """See `Commands.run_lines`. If `skip` is given, it is called for an object that has another address, in place of an error."""
-    file: BinaryIO = log if hasattr(log, "readline") else io.BytesIO(check_bytes(log))  # type: ignore[assignment]
+    file: BinaryIO = log if is_file(log) else io.BytesIO(check_bytes(log))  # type: ignore[assignment]
     end = 0
     for batch in batches_of(lines_of(file)):
         refusals = run_long(store, batch[0], file) if batch and batch[0].length > PIECE_LEN else run_batch(store, batch)

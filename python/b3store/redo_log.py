@@ -44,7 +44,11 @@ class LogFile:
 
     def __init__(self, file: BinaryIO) -> None:
         self.file = file
-        self.length, self.entry = self._synced = 0, 0
+        self.note(0, 0)
+
+    def note(self, length: int, entry: int) -> None:
+        """Notes that so many bytes, which are synced, have what a store has up to an entry."""
+        self.length, self.entry = self._synced = length, entry
 
     def begin(self, length: int, entry: int) -> int:
         """Goes on after bytes that have what a store has up to an entry, and removes others. Returns how many these were."""
@@ -52,7 +56,7 @@ class LogFile:
         if torn:
             os.ftruncate(self.file.fileno(), length)
         os.fsync(self.file.fileno())
-        self.length, self.entry = self._synced = length, entry
+        self.note(length, entry)
         return torn
 
     def extend(self, store: Commands, target: int, tick: Tick, end: float = math.inf) -> bool:
@@ -121,7 +125,7 @@ class RedoLog:
         log. If `syncs` is false, only `finish` syncs the log, and what is long. `report` is called with a line about what goes wrong later."""
         self._path, self._report, self._syncs = path, report, syncs
         self._lock = threading.Lock()
-        self._is_finished = self._is_folder_synced = self._is_restored = False
+        self._is_finished = self._is_folder_synced = self._is_restored = self._has_lost = False
         self._new: Optional[LogFile] = None
         self._next_try, self._min_len = -math.inf, MIN_REPLACED_LEN
         """When the log is written anew at the earliest, and how long it must be then."""
@@ -132,7 +136,7 @@ class RedoLog:
                 self._folder = open_folder(path)
                 failing.callback(os.close, self._folder)
                 self._open()
-                failing.pop_all()
+                self._ending = failing.pop_all()
         except FolderInUse as error:
             raise SaveError(str(error)) from None
         except (OSError, MemoryError) as error:
@@ -145,10 +149,13 @@ class RedoLog:
             if names - IGNORED:
                 raise SaveError(f"{self._path} holds {min(names - IGNORED)!r} and no saved store: name a folder that is empty or doesn't exist")
             create_anew(self._folder, LOG).close()
-        self._is_clean = CLEAN in names or not self._status(LOG).st_size
-        self._log = LogFile(open(LOG, "r+b", 0, opener=opener_in(self._folder)))
+        found = os.stat(LOG, dir_fd=self._folder, follow_symlinks=False)
+        if not stat.S_ISREG(found.st_mode):
+            raise SaveError(f"{self._path}/{LOG} is not a file; nothing was changed")
+        self._is_clean = CLEAN in names or not found.st_size
         create_anew(self._folder, NEW_LOG).close()
         self._remove(NEW_LOG)
+        self._log = LogFile(open(LOG, "r+b", 0, opener=opener_in(self._folder)))
 
     def restore(self, store: Commands, tick: Tick = lambda: None) -> Optional[str]:
         """Restores the store into a new one, and returns what it has; None if it has nothing. Removes an incomplete line at the log's end, and reports objects
@@ -161,8 +168,8 @@ class RedoLog:
             torn, self._is_restored = self._log.begin(length, counts.entries), True
             self._remove(CLEAN)
         except LogError as error:
-            advice = f"nothing was changed; `truncate -s {error.offset}` would keep the lines before it"
-            raise SaveError(f"{path}: {error}; {advice}") from None
+            advice = "" if "S14" in str(error) else f"; `truncate -s {error.offset}` would keep the lines before it"
+            raise SaveError(f"{path}: {error}; nothing was changed{advice}") from None
         except ERRORS as error:
             raise SaveError(f"the store that is saved in {path} can't be restored: {error_text(error)}") from None
         if torn:
@@ -199,12 +206,20 @@ class RedoLog:
         return fault
 
     def renew(self, store: "Store") -> "Store":
-        """Returns what `renew` makes of a store: a new one, which the log follows from now on. Raises what `renew` or a write to the log raises."""
+        """Returns what `renew` makes of a store, and follows that. Raises what these raise. If an object can't be moved back, the log stays as it is."""
         with self._lock:
             self._drop_new()
             self._append(store, lambda: None)
-            new = renew(store)
-            self._log.begin(self._log.length, new.counts().entries)
+            before = store.stat(), store.tenants()
+            # what fails here loses nothing: the old store isn't closed yet
+            self._log.begin(self._log.length, self._log.entry)
+            try:
+                new = renew(store)
+            except BaseException:
+                self._has_lost = True
+                self._has_lost = (store.stat(), store.tenants()) != before
+                raise
+            self._log.note(self._log.length, new.counts().entries)
             return new
 
     def finish(self, store: Commands, tick: Tick = lambda: None) -> str:
@@ -225,17 +240,20 @@ class RedoLog:
             return counts_text(counts)
 
     def close(self) -> None:
-        """Unlocks the folder, and saves nothing more. The end of the process does the same."""
+        """Unlocks the folder, and saves nothing more. The end of the process does the same. A second call has no effect."""
         with self._lock:
             self._is_finished = True
             self._drop_new()
             self._log.file.close()
-            os.close(self._folder)
+            self._ending.close()
+            self._folder = -1
 
     def _append(self, store: Commands, tick: Tick) -> Counts:
         """Appends all that was changed until now, and returns what the store had then. A log that was removed, replaced or truncated, or that wasn't restored,
         is written anew."""
         counts = store.counts()
+        if self._has_lost:
+            raise SaveError("the store lost objects, which the log keeps, when it was to be renewed")
         if not (self._is_restored and self._is_in_place()):
             self._drop_new()
             self._write_anew(store, counts, tick)
@@ -248,21 +266,14 @@ class RedoLog:
                 self._log.sync()
         return counts
 
-    def _status(self, name: str) -> os.stat_result:
-        """The status of a file. Raises OSError, and SaveError for a link and anything else that is no file."""
-        found = os.stat(name, dir_fd=self._folder, follow_symlinks=False)
-        if not stat.S_ISREG(found.st_mode):
-            raise SaveError(f"{self._path}/{name} is not a file; nothing was changed")
-        return found
-
     def _remove(self, name: str) -> None:
         with contextlib.suppress(FileNotFoundError):
             os.unlink(name, dir_fd=self._folder)
 
     def _is_in_place(self) -> bool:
         """Whether the log is still the one that was opened."""
-        with contextlib.suppress(OSError, SaveError):
-            found = self._status(LOG)
+        with contextlib.suppress(OSError):
+            found = os.stat(LOG, dir_fd=self._folder, follow_symlinks=False)
             return os.path.samestat(found, os.fstat(self._log.file.fileno())) and found.st_size >= self._log.length
         return False
 
@@ -288,8 +299,8 @@ class RedoLog:
             raise
         # one that didn't pay isn't repeated soon
         self._min_len = 2 * self._new.length if end < math.inf and 2 * self._new.length > self._log.length else MIN_REPLACED_LEN
-        self._log.file.close()
-        self._log, self._new, self._is_folder_synced, self._is_restored = self._new, None, False, True
+        with self._log.file:
+            self._log, self._new, self._fault_anew, self._is_folder_synced, self._is_restored = self._new, None, "", False, True
         self._sync_folder()
 
     def _sync_folder(self) -> None:

@@ -26,7 +26,7 @@ import threading
 import time
 from typing import Callable, Deque, List, Optional, Set, TextIO, Tuple
 
-from .console import count_text, error_text, number, one_line, open_standard_files, size
+from .console import count_text, error_text, fault_text, number, one_line, open_standard_files, size
 from .listening import Listener, ListenError, inherited, listen_at, more_time, notify
 from .redo_log import RedoLog, SaveError
 from .relay import Connection
@@ -79,11 +79,8 @@ class Connections:
         """Each with the time at which it is sent `busy`."""
         self._served: Set[Connection] = set()
         self._has_waiting = threading.Condition()
-        try:
-            for _ in range(options.sessions):
-                _thread.start_new_thread(self._work, ())
-        except (RuntimeError, MemoryError) as error:
-            raise StoreError(f"there are too few threads: {error}") from None
+        for _ in range(options.sessions):
+            _thread.start_new_thread(self._work, ())
 
     def count(self) -> int:
         return len(self._served) + len(self._waiting)
@@ -348,8 +345,8 @@ def main() -> int:
     words = read_words()
     try:
         return serve(words)
-    except (StoreError, OSError) as error:
-        report(str(error))
+    except (StoreError, OSError, MemoryError, RuntimeError, ValueError) as error:
+        report(fault_text(error))
         return 1
     except SystemExit:  # a signal ends it
         return 0

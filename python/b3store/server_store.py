@@ -19,7 +19,7 @@ from .console import error_text
 from .files import FolderInUse, lock_folder
 from .sessions import Session, set_pipe_size
 from .commands import Commands, Value
-from .values import Ended, Refused, StoreError
+from .values import MAX_NUMBER, Ended, Refused, StoreError
 
 SECONDS_TO_WAIT = 30.0
 """How long the program may take to answer, to open a session, and to exit once its standard input is closed."""
@@ -124,7 +124,7 @@ class StoreProcess(Commands):
         with open(f"/proc/{self._process.pid}/status", encoding="ascii", errors="replace") as file:
             has = 1024 * int(next((line for line in file if line.startswith("VmData:")), "VmData: 0 kB").split()[1])
         hard = resource.prlimit(self._process.pid, resource.RLIMIT_DATA)[1]
-        limit = has + memory if hard == resource.RLIM_INFINITY else min(has + memory, hard)
+        limit = min(has + memory, MAX_NUMBER >> 1 if hard == resource.RLIM_INFINITY else hard)
         resource.prlimit(self._process.pid, resource.RLIMIT_DATA, (limit, hard))
 
     def _expect_totals(self, answers: int, who: str) -> None:

@@ -35,12 +35,11 @@ class Session:
 
     def is_at_rest(self) -> bool:
         """Whether the other side has neither closed the connection nor sent anything. No answer may be due."""
-        try:
+        with contextlib.suppress(OSError):
             poll = select.poll()
             poll.register(self._reading, select.POLLIN)
             return not poll.poll(0)
-        except OSError:
-            return False
+        return False
 
     def write(self, *pieces: Buffer) -> None:
         """Writes pieces one after another, in as few system calls as possible: other threads run while one lasts."""

@@ -106,7 +106,7 @@ class Upload:
 
     def _abort_quietly(self) -> None:
         self.is_open = False
-        with contextlib.suppress(Refused, Ended):
+        with contextlib.suppress(Refused, Ended, ValueError):
             self._commands.abort(self.number)
 
     def _write(self, view: memoryview) -> None:

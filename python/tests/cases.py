@@ -15,7 +15,7 @@ FUNCTIONS = (
     transfers.uploads_of_all_sources, transfers.uploads_that_fail, transfers.uploads_side_by_side, transfers.files_that_go_one_way,
     transfers.uploads_with_blocks, transfers.writes_after_a_refusal, transfers.slow_files, transfers.objects_as_files, transfers.reads_into_buffers,
     transfers.iterates, transfers.by_asyncio,
-    redoing.redone, redoing.lines_that_are_run, redoing.pages_of_objects, redoing.renewed_stores, redoing.logs_of_stores, redoing.faults_of_logs,
+    redoing.redone, redoing.lines_that_are_run, redoing.pages_of_objects, redoing.renewed_stores, redoing.logs_of_stores, redoing.faults_of_logs, redoing.renewals_that_fail,
     redoing.torn_ends, redoing.logs_that_are_changed, redoing.damaged_logs, redoing.damaged_objects, redoing.folders_that_are_none,
     served.over_a_socket, served.over_a_forwarded_socket, served.servers_that_pass_no_pipes, served.over_several_runs,
     served.places_that_are_wrong, served.servers_that_end, served.clients_that_are_closed,

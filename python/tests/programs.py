@@ -100,8 +100,19 @@ def reserves_no_more_than_it_reads():
         store.limit(tenant, len(content) + 2000)
         check((run(["--socket", server.path, "put", "-"], bytes(3000))[::2], (1, "b3store: -: S6: the tenant has too few bytes left (free 2000)\n")))
         check((run(["--socket", server.path, "put", "--max-len", "1G", "-"], b"abc")[0], 1))
+        put_from_a_pipe_that_waits(server)
         check((store.uploads(tenant), []), (len(store.list(tenant)), 1))
         keeps_on_a_full_disk(server, place)
+
+
+def put_from_a_pipe_that_waits(server):
+    """A pipe that is not in blocking mode has no end where it has no bytes yet."""
+    reading, writing = os.pipe()
+    os.set_blocking(reading, False)
+    with os.fdopen(reading, "rb") as source, os.fdopen(writing, "wb", buffering=0) as target:
+        target.write(b"the beginning")
+        with subprocess.Popen([sys.executable, "-m", "b3store", "--socket", server.path, "put", "-"], stdin=source, stdout=-1, stderr=-1, env=environment()) as put:
+            check((put.communicate(), (b"", b"b3store: -: the file has no bytes now: set it to blocking mode\n")), (put.returncode, 1))
 
 
 def keeps_on_a_full_disk(server, place):

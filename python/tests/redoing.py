@@ -2,6 +2,8 @@
 import contextlib
 import errno
 import io
+import itertools
+import mmap
 import os
 import pickle
 import tempfile
@@ -73,7 +75,9 @@ def lines_that_are_run(store):
     check((store.run_lines(ABC_LINES), end), (store.usage(0), Usage(3, 0, 60)), (store.run_lines(b""), 0))
     for lines, whole in (b"fileas 0 %s 3\nab" % ABC.encode(), 0), (b"limit 0 70\nlimit 0 8", 11), (bytearray(b"limit 0 80\nl"), 11), (io.BytesIO(b"limit 0 90\nfo"), 11):
         check((store.run_lines(lines), whole))
-    check((store.usage(0).limit, 90))
+    with mmap.mmap(-1, 11) as mapped:
+        mapped.write(b"limit 0 95\n")
+        check((store.run_lines(mapped), 11), (store.usage(0).limit, 95))
     wrong = (
         (b"limit 0 50\nlimit 1 5\nlimit 0 40\n", 2, 11, "S1"), (b"fileas 0 %s 3\nabclimit 0 2\n" % ABC.encode(), 2, 79, "S4"),
         (b"fileas 0 %s 3\nabdlimit 0 30\n" % ABC.encode(), 1, 0, "S11"), (b"limit 0 50\nlist 0\n", 2, 11, None), (b"limit 0 50\n\nlimit 0 30\n", 2, 11, None),
@@ -271,6 +275,26 @@ def refuse(number):
     raise Refused(number)
 
 
+def renewals_that_fail():
+    """A store whose log can't be synced isn't renewed. One that can't be moved is followed further; but what can't be moved back stays in the log, which may be
+    closed twice."""
+    with save_folder() as folder, logged(folder) as here:
+        file_some(here.store)
+        check((here.follows(), ""))
+        state, upload, told = without_order(state_of(here.store)), Store.upload, []
+        with mock.patch.object(os, "fsync", failing(errno.EIO)):
+            check((raised(here.log.renew, here.store), OSError), (without_order(state_of(here.store)) == state, True))
+        for is_moved in lambda call: call != 2, lambda call: call < 2:
+            calls = itertools.count(1)
+            with mock.patch.object(Store, "upload", lambda *given, calls=calls, is_moved=is_moved: upload(*given) if is_moved(next(calls)) else refuse("S14")):
+                check((refusal(here.log.renew, here.store), ("S14", None)))
+            told.append(here.follows())
+            check((without_order(saved_in(folder)) == state, True))
+        wanted = f"the log in {folder} can't be written: the store lost objects, which the log keeps, when it was to be renewed; it is tried again"
+        check((told, ["", wanted]), (raised(here.log.finish, here.store), SaveError), (without_order(saved_in(folder)) == state, True))
+        here.log.close()
+
+
 SMALL = ABC_LINES + b"forget 0 %s\nlimit 0 7\n" % ABC.encode()
 ENDS = [0, 12, 91, 165, 176, 250, 260]
 """A small log, and where its lines end."""
@@ -331,7 +355,7 @@ def unrestored(folder):
 
 
 def damaged_logs():
-    """A line that is wrong or refused is named in a message, and nothing in the folder changes; nor if the log can't be read."""
+    """A line that is wrong or refused is named in a message, and nothing in the folder changes; nor if the log can't be read, or there is too little memory."""
     with save_folder() as folder:
         fill_folder(folder)
         path = Path(f"{folder}/log")
@@ -339,9 +363,13 @@ def damaged_logs():
             path.write_bytes(content)
             before = files_in(folder)
             check((wanted in unrestored(folder), True), (files_in(folder), before))
-        for error, reason in (OSError(errno.EIO, os.strerror(errno.EIO)), "input/output error"), (MemoryError(), "out of memory"):
+        unread = f"the store that is saved in {path} can't be restored: "
+        for error, wanted in (
+            (OSError(errno.EIO, os.strerror(errno.EIO)), f"{unread}input/output error"), (MemoryError(), f"{unread}out of memory"),
+            (LogError(1, 0, Refused("S14")), f"{path}: line 1, at byte 0, is refused: S14: out of memory; nothing was changed"),
+        ):
             with mock.patch.object(redo_log, "run_lines", mock.Mock(side_effect=error)):
-                check((unrestored(folder), f"the store that is saved in {path} can't be restored: {reason}"), (files_in(folder), before))
+                check((unrestored(folder), wanted), (files_in(folder), before))
 
 
 def damaged_objects():

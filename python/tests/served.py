@@ -87,10 +87,12 @@ def forwarded(target):
 
 
 def over_a_forwarded_socket():
-    """A client to which no pipes can be passed sends its lines through the socket. What it has begun is aborted when it ends."""
+    """A client to which no pipes can be passed sends its lines through the socket, which has no timeout. What it has begun is aborted when it ends."""
     content = content_of(9 * PART_LEN + 3)
     with Running() as server, forwarded(server.path) as path, Client(server.path) as near:
+        socket.setdefaulttimeout(SECONDS)
         with Client(path, sessions=3) as store:
+            socket.setdefaulttimeout(None)
             tenant = store.tenant(1 << 30)
             address = store.upload(io.BytesIO(content), tenant).address
             check((store.fetch(tenant, address) == content, True), (near.fetch(tenant, address) == content, True), (store.alive, True))
@@ -110,6 +112,7 @@ def servers_that_pass_no_pipes():
         cases = (
             (b"busy\n", [], "the server is busy: each of its sessions has a client"), (b"", [], "has closed the connection"), (b"pip", [], "has closed the connection"),
             (b"tenant 0\n", [], "the server answers b'tenant 0"), (b"pipes\n", ends[:1], "the server answers"), (b"xxxxxxxx", [], "has closed the connection"),
+            (b"tenant 0\n", ends, "the server answers b'tenant 0"), (b"pip", ends, "has closed the connection"),
         )
         for answer, passed, reason in cases:
 

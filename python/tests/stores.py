@@ -2,6 +2,7 @@
 import array
 import contextlib
 import copy
+import ctypes
 import gc
 import mmap
 import operator
@@ -135,7 +136,8 @@ def buffers_of_all_kinds():
         store.file(tenant, grown)
         # nothing keeps it
         grown.append(1)
-        check((store.stat().uploads, 0))
+        # all modules share this function, and other ones have other types for its arguments
+        check((store.stat().uploads, 0), (ctypes.pythonapi.PyObject_GetBuffer.argtypes, None))
 
 
 def file_of_parts(store, tenant, content):

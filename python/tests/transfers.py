@@ -208,7 +208,14 @@ def uploads_with_blocks(store):
     check((upload.filed, None), (store.uploads(tenant), []))
     check((refusal(lambda: seal_wrongly(store, tenant)), ("S11", ABC)), (refusal(lambda: leave_early(store, tenant)), ("S10", 0)))
     check((raised(store.start_upload, tenant, 5, 5), ValueError), (raised(upload.write, "abc"), TypeError))
-    check((store.uploads(tenant), []), (store.usage(tenant).reserved, 0), (len(store.list(tenant)), 3))
+    check((store.uploads(tenant), []), (store.usage(tenant).reserved, 0), (len(store.list(tenant)), 3), (raised(close_within, store, tenant), KeyError))
+
+
+def close_within(store, tenant):
+    """Closes a store within the block of an upload, and raises something else there."""
+    with store.start_upload(tenant):
+        store.close()
+        raise KeyError
 
 
 def written(store, tenant, content, step):

@@ -119,6 +119,8 @@ def round_trip():
     with place_of() as (folder, repository, restored):
         check((readable_by_others(repository), []), (run("restore", repository, "latest", restored), (0, [], [])))
         check((state_of(restored) == state_of(folder), True))
+        # the log after this one has a longer number
+        os.rename(os.path.join(repository, "000001.log"), os.path.join(repository, "999999.log"))
         blocks = os.stat(os.path.join(restored, "sparse")).st_blocks
         check((blocks <= 4 * PART // 512, True))
         for name, change, most in ("again", b"", 30000), ("at its end", b"abcdef", PART + 30000):
@@ -153,11 +155,11 @@ def snapshots_by_name():
         for path, wanted in ("sub/link", ["sub", "sub/link"]), ("many/7/", ["many", "many/7", "many/7/file"]), ("same", ["same"]):
             target = os.path.join(restored, "one", path.replace("/", "-"))
             check((run("restore", repository, "latest", target, path), (0, [], [])), (sorted_paths(target), wanted))
-        for words, part in ((["restore", repository, "xyz", restored], "no snapshot xyz"), (["list", repository, ""], "several snapshots"), (["forget", repository, "0" * 64], "no snapshot")):
+        for words, part in ((["restore", repository, "xyz", restored], "no snapshot xyz"), (["list", repository, ""], "no snapshot "), (["forget", repository, "0" * 64], "no snapshot")):
             status, lines, errors = run(*words)
             check((status, 3), (lines, []), (len(errors), 1), (part in errors[0], True))
-        status, lines, _ = run("restore", repository, first, restored + "2", "no/such")
-        check((status, 1), (lines, ["not in the snapshot: no/such"]))
+        for path in "no/such", "large/such":
+            check((run("restore", repository, first, restored + "2", path), (1, [f"not in the snapshot: {path}"], [])))
         is_whole(repository, 2)
 
 
@@ -261,21 +263,23 @@ def hostile_repositories():
         # of a wrong number it is enough that nothing unforeseen happens
         numbers = [{field: value} for field in ("mode", "uid", "gid", "mtime", "size") for value in (-1 if field != "mtime" else 1 << 63, 1 << 64, 1.5, "5", None, True)]
         changes += [{"parts": parts} for parts in ("abc", [0], [-1], [True], ["abc"], [None], 5, [[]])] + [{"kind": "link", "target": target} for target in ("a\0b", 5, None)]
-        for change in [*changes, *numbers, {"links": []}, {"size": 4}, {"size": 2}, {"parts": [1 << 62], "size": 1 << 62}, {}]:
+        whole = [{"top": {"mode": "5"}}, {"top": {"uid": 1 << 64}}, {"snapshot": {"time": 1e300}}, {"snapshot": {"path": "\ud800"}}, {"list": []}, {"kind": "link", "parts": [[]]}]
+        for change in [*changes, *numbers, *whole, {"links": []}, {"size": 4}, {"size": 2}, {"parts": [1 << 62], "size": 1 << 62}, {}]:
             repository = os.path.join(place, "repository")
             os.mkdir(repository)
             kept = backup.Repository(repository)
             entry = {**right, "parts": [kept.keep(b"abc")], **change}
-            top = {**right, "name": "top", "kind": "folder", "list": kept.keep(json.dumps([entry]).encode())}
-            address = kept.keep(json.dumps({"time": 1.5, "path": "/x", "top": top}).encode())
+            top = {**right, "name": "top", "kind": "folder", "list": kept.keep(json.dumps([entry]).encode()), **change.get("top", {})}
+            address = kept.keep(json.dumps({"time": 1.5, "path": "/x", "top": top, **change.get("snapshot", {})}).encode())
             kept.set_snapshots([address])
             os.close(kept.folder)
-            for words in ["restore", repository, "latest", restored], ["list", repository, "latest"]:
+            more = [["list", repository], ["check", "--program", PROGRAM, repository], ["forget", repository], ["save", repository, restored]]
+            for words in ["restore", repository, "latest", restored], ["list", repository, "latest"], *(more if change in whole else []):
                 status, lines, errors = run(*words)
                 is_bad = bool(change) and "links" not in change and change not in numbers and words[0] == "restore"
                 is_bad_end = len(errors) > 1 or any("Traceback" in line for line in errors) or is_bad and status == 0
                 check(((change, words[0], status, lines, errors, is_bad_end), (change, words[0], status, lines, errors, False)))
-            check(((change, os.listdir(outside)), (change, [])), ((change, sorted(os.listdir(place))), (change, ["outside", "repository", "restored"])))
+            check(((change, os.listdir(outside)), (change, [])), ((change, sorted({*os.listdir(place), "restored"})), (change, ["outside", "repository", "restored"])))
             shutil.rmtree(repository)
             shutil.rmtree(restored, ignore_errors=True)
 
@@ -453,6 +457,8 @@ def full_disks():
         resource.setrlimit(resource.RLIMIT_FSIZE, (2000000, resource.RLIM_INFINITY))
 
     with place_of() as (folder, repository, restored):
+        put(folder, "new", os.urandom(backup.MAX_LOG_LEN + 5000000))
+        check((run("save", repository, folder, preexec_fn=limit_files), (3, [], [f"b3store: cannot write to {repository}: file too large"])))
         put(folder, "new", os.urandom(5000000))
         status, lines, errors = run("save", repository, folder, preexec_fn=limit_files)
         check((status, 3), (errors, ["b3store: cannot write: file too large"]))

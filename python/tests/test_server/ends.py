@@ -11,7 +11,7 @@ import time
 
 from judging import SECONDS_TO_WAIT, check, wait_until
 from redoing import save_folder
-from running import AS_MODULE, CLEAN, PROGRAM, RUN_SERVER, SECONDS, SHORTLY, Connection, Running, environment, fails, is_listening, is_running
+from running import AS_MODULE, CLEAN, PROGRAM, RUN_SERVER, SECONDS, SHORTLY, Connection, Running, environment, fails, is_listening, is_running, run_python
 from talking import NoAnswer
 
 WITH_NOHUP = f"import signal; signal.signal(signal.SIGHUP, signal.SIG_IGN); {RUN_SERVER}"
@@ -30,6 +30,18 @@ socket.socket.accept = accept_or_fail
 {RUN_SERVER}
 """
 """A server that has no memory for its first connection when it is to be accepted."""
+
+
+WITHOUT_THREADS = """
+import _thread, sys
+from b3store import server
+def start(work, words, start=_thread.start_new_thread):
+    if work is server.follow:
+        raise RuntimeError("can't start new thread")
+    start(work, words)
+_thread.start_new_thread = start
+sys.exit(server.main())
+"""
 
 
 def busy():
@@ -141,6 +153,8 @@ def streams_that_take_nothing():
 
 def too_large_for_the_store():
     """What has no room in the memory that the store may take is refused. The store still gives what it has, and takes more once the client has left."""
+    with Running("--memory", str(10**19)) as server:
+        check((server.end(), CLEAN))
     with Running("--memory", "256M") as server, server.client() as other:
         other.ask(f"tenant {1 << 46}")
         address = other.file(b"kept")
@@ -210,6 +224,12 @@ def programs_that_are_none():
             told = fails("--socket", f"{folder}/socket", "--program", path, TMPDIR=temporary)
             check((told, (1, f"b3store.server: {wanted.format(path)}\n")))
             check((os.listdir(temporary), []), (os.path.exists(f"{folder}/socket"), False))
+
+
+def threads_that_cannot_start():
+    with save_folder() as folder:
+        status, _, told = run_python("-c", WITHOUT_THREADS, "--socket", f"{folder}-socket", "--save", folder, "--program", PROGRAM)
+        check((status, 1), (told, "b3store.server: can't start new thread\n"), (os.path.exists(f"{folder}-socket"), False))
 
 
 def ends_in_time():
