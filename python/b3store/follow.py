@@ -13,7 +13,7 @@ import time
 from .client import Client
 from .console import count_text, fault_text, finish, report
 from .redo_log import RedoLog, counts_text
-from .values import MAX_REDONE, StoreError
+from .values import MAX_REDONE, Counts, StoreError
 
 SECONDS_BETWEEN_LOOKS, SECONDS_BETWEEN_TRIES = 0.1, 1.0
 """How long nothing is asked for once the copy has everything, and after a failure."""
@@ -68,11 +68,18 @@ def follow_to_server(source: Client, path: str, journal: Journal) -> None:
             at = following
 
 
-def make_same(source: Client, target: Client) -> int:
-    """Gives a store what another one has, unless it is empty. Returns the number of the entry from which it goes on."""
-    counts, has = source.counts(), target.counts().tenants
+def counts_above(source: Client, has: int) -> Counts:
+    """Returns what a store has. Raises Unlike if it has fewer tenants than its copy."""
+    counts = source.counts()
     if has > counts.tenants:
         raise Unlike(f"the copy has {count_text(has, 'tenant')}, and the store to copy {counts.tenants}: it is left as it is")
+    return counts
+
+
+def make_same(source: Client, target: Client) -> int:
+    """Gives a store what another one has, unless it is empty. Returns the number of the entry from which it goes on."""
+    has = target.counts().tenants
+    counts = counts_above(source, has)
     for tenant in range(counts.tenants if has else 0):
         limit, wanted = source.usage(tenant).limit, source.list(tenant)
         if tenant >= has:
@@ -89,6 +96,7 @@ def make_same(source: Client, target: Client) -> int:
 
 def follow_to_folder(source: Client, log: RedoLog, journal: Journal) -> None:
     """Keeps a log of the store, until the connection ends, which raises Ended."""
+    counts_above(source, log.tenants())
     while True:
         journal.note(source)
         if not log.follow(source):

@@ -16,7 +16,7 @@ from typing import BinaryIO, Callable, Optional
 from . import TYPE_CHECKING
 from .console import count_text, error_text
 from .files import FolderInUse, create_anew, lock_folder, opener_in
-from .redo import LogError, Tick, renew, run_lines
+from .redo import LogError, Tick, lines_of, renew, run_lines
 from .commands import Commands
 from .values import MAX_REDONE, Counts, Ended, Refused, StoreError
 
@@ -175,6 +175,14 @@ class RedoLog:
         if torn:
             self._report(f"{path} ended within a line: its last {count_text(torn, 'byte')} {'is' if torn == 1 else 'are'} removed")
         return (counts_text(counts) + ("" if self._is_clean else "; the last process was killed")) if counts.tenants else None
+
+    def tenants(self) -> int:
+        """Returns how many tenants the log has, up to a line that is wrong."""
+        count = 0
+        with open(LOG, "rb", opener=opener_in(self._folder)) as file, contextlib.suppress(LogError):
+            for line in lines_of(file):
+                count += line.text.startswith(b"tenant ")
+        return count
 
     def follow(self, store: Commands) -> bool:
         """Appends what was changed, and writes the log anew for half a second if that pays. What fails is reported once, unless the store has ended. Returns

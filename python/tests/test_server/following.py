@@ -62,7 +62,7 @@ def copies_in_a_folder():
     with save_folder() as folder, Running() as first, Client(first.path) as store:
         os.mkdir(folder, 0o700)
         log = Path(folder, "log")
-        log.write_bytes(b"tenant 7\n" * 3)
+        log.write_bytes(b"tenant 7\n")
         append_to(f"{folder}/clean")
         store.tenant(100000000)
         addresses = [store.file(0, b"%d" % number * 900_000).address for number in range(4)]
@@ -89,9 +89,14 @@ def copies_that_are_refused():
             status, told = following.ends()
             check((status, 2), (told.endswith("FROM and TO are the same\n"), True))
         copied.file(copied.tenant(50), b"only here")
-        state = state_of(copied)
+        state, told = state_of(copied), [3, "b3store: the copy has 1 tenant, and the store to copy 0: it is left as it is\n"]
         with Following(first.path, second.path) as following:
-            check((following.ends(), [3, "b3store: the copy has 1 tenant, and the store to copy 0: it is left as it is\n"]), (state_of(copied), state))
+            check((following.ends(), told), (state_of(copied), state))
+        with save_folder() as folder:
+            os.mkdir(folder, 0o700)
+            Path(folder, "log").write_bytes(b"tenant 7\nlimit")
+            with Following(first.path, folder) as following:
+                check((following.ends(), told), (Path(folder, "log").read_bytes(), b"tenant 7\nlimit"))
     with Running() as first, Running() as second:
         with Client(second.path) as copied:
             with Following(first.path, second.path) as following, Client(first.path) as store:
