@@ -31,7 +31,6 @@ import ctypes
 import email.utils
 import functools
 import http.server
-import queue
 import re
 import resource
 import signal
@@ -51,12 +50,12 @@ from cache_content import Cache, Declined
 METRICS, HEALTH = "/metrics", "/healthz"
 """The paths that are no keys."""
 MAX_KEY_LEN, MAX_LINE = 1 << 10, 1 << 12
-MAX_CONNECTIONS, OTHER_FILES = 450, 100
-"""How many connections are open at a time, with a file for the body of each; and how many descriptors there are for all else."""
+MAX_CONNECTIONS, OTHER_FILES, THREADS = 450, 100, 8
+"""How many connections are open at a time, with a file for the body of each; how many descriptors are for all else; and with how many threads it starts."""
 SECONDS_OF_REQUEST, MIN_RATE, SECONDS_TO_LEAVE = 60, 1 << 14, 5
 """The last is how long a refused client may go on to send, so that it receives the answer."""
-SHORT, PIECE, STACK = 1 << 18, 1 << 18, 1 << 19
-"""A body that is longer than the first is written to a file without a name in FOLDER as it arrives. Content is read and written in such pieces."""
+AT_ONCE, SHORT, PIECE, STACK = 1 << 15, 1 << 18, 1 << 18, 1 << 19
+"""Up to the first, an answer is sent at once. A longer body than the second is written to a file without a name in FOLDER. Content is read in such pieces."""
 NUMBER, PORT = re.compile("[0-9]{1,19}"), re.compile(":[0-9]*$")
 ADDRESS = re.compile(r"[0-9.]+|\[[0-9a-f:.]+\]")
 """An IP address in the header Host: the last label of a name is never a number."""
@@ -64,17 +63,16 @@ RANGE = re.compile("bytes=([0-9]{0,19})-([0-9]{0,19})")
 CHUNK = re.compile(rb"([0-9a-fA-F]{1,15})[ \t]*(?:;[^\n]*)?\r?\n")
 report = functools.partial(console.report, name="cache")
 date_text = functools.lru_cache(1)(functools.partial(email.utils.formatdate, usegmt=True))
+send_at_once = ctypes.PyDLL(None).send
+"""The system's call, which here lets no other thread run meanwhile: this one would wait for its turn longer than the call takes."""
 EPILOG = "exit status: 0 after a signal; 1 the server can't start, or can't write its last changes to FOLDER; 2 usage error"
 
 
 class Handler(http.server.BaseHTTPRequestHandler):
     """One connection."""
 
-    protocol_version, default_request_version = "HTTP/1.1", "HTTP/1.0"
-    disable_nagle_algorithm, wbufsize = True, 1 << 16
-    """The head of an answer and short content are sent together."""
-    has_body = False
-    """Whether the client may still be sending a body."""
+    protocol_version, disable_nagle_algorithm, has_body = "HTTP/1.1", True, False
+    """The last is whether the client may still be sending a body."""
 
     def handle_one_request(self):
         """Answers a request by the method of its name, or by what that raises."""
@@ -93,7 +91,7 @@ class Handler(http.server.BaseHTTPRequestHandler):
         self.has_body = True
         if not super().parse_request():
             return False
-        lengths, codings = (self.headers.get_all(name, []) for name in ("Content-Length", "Transfer-Encoding"))
+        lengths, codings, hosts = map(self.headers.get_all, ("Content-Length", "Transfer-Encoding", "Host"), ([], [], ["localhost"]))
         # http.server takes other bytes for spaces too
         words = self.requestline.split(" ")
         if len(words) != 3 or not words[1].startswith("/") or self.headers.defects or len(lengths) + len(codings) > 1 or not all(map(NUMBER.fullmatch, lengths)):
@@ -101,7 +99,6 @@ class Handler(http.server.BaseHTTPRequestHandler):
         self.path = words[1]
         if codings and codings[0].lower() != "chunked":
             raise Declined(501, "unknown transfer coding")
-        hosts = self.headers.get_all("Host", ["localhost"])
         name = PORT.sub("", hosts[0].lower())
         if len(hosts) > 1 or not (name in self.server.hosts or ADDRESS.fullmatch(name)):
             raise Declined(403, "the header Host has another name: see --host")
@@ -118,31 +115,30 @@ class Handler(http.server.BaseHTTPRequestHandler):
     def answer(self, status, text="", content_type="text/plain; charset=utf-8"):
         content = f"{text}\n".encode(errors="replace") if text else b""
         self.close_connection |= self.has_body
-        self.head(status, {"Content-Type": content_type, **({"Retry-After": "1"} if status == 503 else {})}, len(content))
-        if self.command != "HEAD":
-            self.wfile.write(content)
-        self.wfile.flush()
+        headers = {"Content-Type": content_type, **({"Retry-After": "1"} if status == 503 else {})}
+        self.send(status, headers, len(content), content if self.command != "HEAD" else b"")
 
-    def head(self, status, headers, length):
-        """Counts an answer, and sends its head."""
+    def send(self, status, headers, length, content=b""):
+        """Counts an answer, and sends its head together with the first content. What can't be sent at once waits until the client reads."""
         self.server.count((self.command if hasattr(self, f"do_{self.command}") else "other", int(status)))
-        self.send_response_only(status)
-        self.send_header("Date", date_text(int(time.time())))
+        headers["Date"] = date_text(int(time.time()))
         if status not in (204, 304):
-            headers["Content-Length"] = str(length)
+            headers["Content-Length"] = length
         if self.close_connection:
             headers["Connection"] = "close"
-        for name, value in headers.items():
-            self.send_header(name, value)
-        self.end_headers()
+        lines = [f"{self.protocol_version} {int(status)} {self.responses[status][0]}", *(f"{name}: {value}" for name, value in headers.items()), "", ""]
+        content = "\r\n".join(lines).encode("latin-1") + content
+        sent = send_at_once(self.connection.fileno(), content, len(content), socket.MSG_DONTWAIT) if len(content) <= AT_ONCE else 0
+        if sent < len(content):
+            self.wfile.write(content[max(0, sent) :])
 
     def send_error(self, code, message=None, explain=None):
-        # http.server refuses by this what it can't read, and writes the answer only as the connection is closed
+        # http.server refuses by this what it can't read
         self.close_connection = True
         self.answer(code, message or "")
 
     def finish(self):
-        """Sends what is left of an answer, and drops what a refused client goes on to send: otherwise the system would drop the answer."""
+        """Drops what a refused client goes on to send: otherwise the system would drop the answer."""
         super().finish()
         if self.has_body:
             self.server.deadlines[self.connection] = time.monotonic() + SECONDS_TO_LEAVE
@@ -164,11 +160,11 @@ class Handler(http.server.BaseHTTPRequestHandler):
             headers = {"ETag": f'"{entry.address}"', "Accept-Ranges": "bytes", "Content-Type": "application/octet-stream"}
             wanted, known = self.wanted_range(headers["ETag"], entry.length), self.headers.get("If-None-Match", "")
             if headers["ETag"] in known or known.strip() == "*":
-                self.head(304, headers, 0)
+                self.send(304, headers, 0)
             elif wanted is None:
                 self.give_range(entry, range(entry.length), 200, headers)
             elif not wanted:
-                self.head(416, {"Content-Range": f"bytes */{entry.length}"}, 0)
+                self.send(416, {"Content-Range": f"bytes */{entry.length}"}, 0)
             else:
                 headers["Content-Range"] = f"bytes {wanted.start}-{wanted.stop - 1}/{entry.length}"
                 self.give_range(entry, wanted, 206, headers)
@@ -187,15 +183,15 @@ class Handler(http.server.BaseHTTPRequestHandler):
         room, at = memoryview(bytearray(min(PIECE, len(wanted)) if self.command == "GET" else 0)), wanted.start
         # what the store refuses is answered before the head is sent
         self.server.cache.read(entry, room, at)
-        self.head(status, headers, len(wanted))
+        self.send(status, headers, len(wanted), room)
         try:
             while room:
-                self.wfile.write(room)
                 self.progress("sent", len(room))
                 at += len(room)
                 room = room[: wanted.stop - at]
                 if room:
                     self.server.cache.read(entry, room, at)
+                    self.wfile.write(room)
         except Refused:
             # the client receives fewer bytes than Content-Length
             self.close_connection = True
@@ -227,7 +223,6 @@ class Handler(http.server.BaseHTTPRequestHandler):
         self.server.cache.check()
         if self.headers.get("Expect", "").lower() == "100-continue":
             self.wfile.write(b"HTTP/1.1 100 Continue\r\n\r\n")
-            self.wfile.flush()
         with tempfile.SpooledTemporaryFile(SHORT, dir=self.server.cache.folder) as body:
             for count in self.pieces():
                 self.check_length(body.tell() + count)
@@ -268,17 +263,15 @@ class Handler(http.server.BaseHTTPRequestHandler):
 
 
 class Server(socketserver.ThreadingTCPServer):
-    """Answers each connection in a thread, and closes those that are late. A thread that has answered one waits for the next: to start one takes some
-    milliseconds on a busy machine."""
+    """Answers each connection in the thread that has taken it: to start or to wake another one takes time. Closes connections that are late."""
 
     allow_reuse_address, request_queue_size = True, 128
 
     def __init__(self, options, cache):
         self.cache, self.max_body, self.hosts = cache, min(options.max_body, options.limit), {"localhost", *map(str.lower, options.host)}
         self.max_connections = max(1, min(MAX_CONNECTIONS, (resource.getrlimit(resource.RLIMIT_NOFILE)[0] - OTHER_FILES) // 2))
-        self.counts, self.lock = collections.Counter(), threading.Lock()
-        self.connections, self.free = queue.SimpleQueue(), threading.Semaphore(0)
-        """The connections that threads take, and how many threads wait for one."""
+        self.counts, self.lock, self.free = collections.Counter(), threading.Lock(), threading.Semaphore(THREADS - 1)
+        """The last is how many threads wait for a connection, beside the one that always does."""
         self.deadlines, self.idle = {}, collections.OrderedDict()
         """When each connection must have sent its request and received the answer; and those that wait for a request, the longest waiting first."""
         self.address_family, _, _, _, address = socket.getaddrinfo(options.host[0], options.port, type=socket.SOCK_STREAM)[0]
@@ -289,29 +282,36 @@ class Server(socketserver.ThreadingTCPServer):
         self.deadlines[connection] = time.monotonic() + SECONDS_OF_REQUEST
         self.idle[connection] = None
 
+    def answer_all(self):
+        """Takes connections, and answers each, while another thread takes the next one."""
+        while True:
+            try:
+                self.process_request(*self.get_request())
+            except Exception:
+                self.handle_error(None, None)
+
     def process_request(self, request, client_address):
         """Answers a connection. If there are too many, closes the one that has waited longest for a request; if none waits, the new one."""
-        try:
-            if len(self.deadlines) >= self.max_connections:
-                close(self.idle.popitem(last=False)[0], socket.SHUT_RDWR)
-        except KeyError:
-            return self.shutdown_request(request)
-        self.wait_for(request)
         if not self.free.acquire(blocking=False):
             threading.Thread(target=self.answer_all, daemon=True).start()
-        self.connections.put((request, client_address))
+        try:
+            with self.lock:
+                if len(self.deadlines) >= self.max_connections:
+                    close(self.idle.popitem(last=False)[0], socket.SHUT_RDWR)
+                self.wait_for(request)
+            self.process_request_thread(request, client_address)
+        except KeyError:
+            self.shutdown_request(request)
+        self.free.release()
 
-    def answer_all(self):
+    def close_late(self):
+        """Closes connections that are late, each half second: first for reading, so that the request can be answered."""
         while True:
-            self.process_request_thread(*self.connections.get())
-            self.free.release()
-
-    def service_actions(self):
-        """Closes connections that are late, at least each half second: first for reading, so that the request can be answered."""
-        now = time.monotonic()
-        for connection, deadline in list(self.deadlines.items()):
-            if now > deadline:
-                close(connection, socket.SHUT_RD if now < deadline + SECONDS_TO_LEAVE else socket.SHUT_RDWR)
+            time.sleep(0.5)
+            now = time.monotonic()
+            for connection, deadline in list(self.deadlines.items()):
+                if now > deadline:
+                    close(connection, socket.SHUT_RD if now < deadline + SECONDS_TO_LEAVE else socket.SHUT_RDWR)
 
     def shutdown_request(self, request):
         self.idle.pop(request, None)
@@ -320,9 +320,8 @@ class Server(socketserver.ThreadingTCPServer):
 
     def handle_error(self, request, client_address):
         """Reports what ended a connection, unless it was the client."""
-        fault = sys.exc_info()[1]
-        if not isinstance(fault, OSError):
-            report(f"a request failed: {type(fault).__name__}: {fault}")
+        if not isinstance(sys.exc_info()[1], OSError):
+            report(f"a request failed: {sys.exc_info()[1]!r}")
 
     def count(self, name, count=1):
         with self.lock:
@@ -352,7 +351,8 @@ def serve(options, ending):
     """Runs the server until a signal. Raises StoreError and OSError."""
     cache = Cache(options.folder, options.limit, report)
     server = Server(options, cache)
-    threading.Thread(target=server.serve_forever, daemon=True).start()
+    for loop in [server.answer_all] * THREADS + [server.close_late]:
+        threading.Thread(target=loop, daemon=True).start()
     report(f"port {server.server_address[1]}")
     notify("READY=1")
     report(f"loaded {cache.load(lambda: sys.exit(0) if ending & signal.sigpending() else None)}")
