@@ -94,9 +94,9 @@ def make_same(source: Client, target: Client) -> int:
     return counts.entries if has else 0
 
 
-def follow_to_folder(source: Client, log: RedoLog, journal: Journal) -> None:
-    """Keeps a log of the store, until the connection ends, which raises Ended."""
-    counts_above(source, log.tenants())
+def follow_to_folder(source: Client, log: RedoLog, has: int, journal: Journal) -> None:
+    """Keeps a log of the store, in place of one that had a number of tenants, until the connection ends, which raises Ended."""
+    counts_above(source, has)
     while True:
         journal.note(source)
         if not log.follow(source):
@@ -115,7 +115,7 @@ def run() -> int:
         # a copy of itself would grow without end
         parser.error("FROM and TO are the same")
     log = RedoLog(words.target, report) if words.target.endswith("/") or os.path.isdir(words.target) else None
-    journal, told = Journal(), ""
+    has, journal, told = log.tenants() if log else 0, Journal(), ""
     while True:
         try:
             with Client(words.source) as source:
@@ -123,7 +123,7 @@ def run() -> int:
                 if log is None:
                     follow_to_server(source, words.target, journal)
                 else:
-                    follow_to_folder(source, log, journal)
+                    follow_to_folder(source, log, has, journal)
         except Unlike:
             raise
         except (OSError, StoreError, MemoryError) as fault:
