@@ -288,6 +288,8 @@ class Server(socketserver.ThreadingTCPServer):
             try:
                 self.process_request(*self.get_request())
             except Exception:
+                # as when there are no descriptors: tried again at once, it would keep a processor busy
+                time.sleep(0.1)
                 self.handle_error(None, None)
 
     def process_request(self, request, client_address):
